@@ -1,0 +1,1 @@
+// Commutative rings, fields, primes and finite lists. This crate has no code: specs/ holds the definitions and proofs/ their laws.

@@ -1,0 +1,37 @@
+-- The refusals that calls share (document 01, "Caused by what was sent"). "The first that applies is returned."
+--   refuse k b rest      k where the condition b applies, else what comes after it; the last is 0, a call that succeeds
+--   badPrime p           1: p is below 2, above 65,535 or not prime
+--   badDegree n          2: n is not 1 to 16
+--   badLength n xss      3: a list of coefficients, read or written, has the wrong length
+--   badWord p xss        4: a coefficient is p or more
+--   written k new old    what a lent list holds after a call with the number k: new where k is 0, else what it held
+use mathlib.Core.Bool.{Bool, true, false, _&&_, not}
+use mathlib.Core.List.{List}
+use Prim.Native.Nat.{ℕ}
+use lib.Dec.{leb, ltb, eqb}
+use lib.ListN.{length}
+use Rattle.algebra.specs.Lists.{all}
+use Rattle.modular.specs.Prime.{isPrime}
+
+abbrev pub refuse : ℕ → Bool → ℕ → ℕ
+refuse k true rest = k
+refuse k false rest = rest
+
+unfoldable pub badPrime : ℕ → Bool
+badPrime p = not (isPrime p)
+
+unfoldable pub badDegree : ℕ → Bool
+badDegree n = not (leb 1 n && leb n 16)
+
+unfoldable pub badLength : ℕ → List (List ℕ) → Bool
+badLength n xss = not (all (λ xs. eqb (length xs) n) xss)
+
+unfoldable pub badWord : ℕ → List (List ℕ) → Bool
+badWord p xss = not (all (all (λ a. ltb a p)) xss)
+
+abbrev pub pick : Bool → List ℕ → List ℕ → List ℕ
+pick true new old = new
+pick false new old = old
+
+abbrev pub written : ℕ → List ℕ → List ℕ → List ℕ
+written k new old = pick (eqb k 0) new old

@@ -1,0 +1,1 @@
+// Words modulo p.

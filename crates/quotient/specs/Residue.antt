@@ -1,0 +1,79 @@
+-- Residues modulo a monic polynomial (document 01, "Models and residues").
+-- A modulus T = X^n + t(n−1)X^(n−1) + … + t0 is given by the list t of its n lower words, constant first. A residue is n words,
+-- each below p, in the same order: a polynomial of degree below n, taken modulo p and T.
+--   Words p n u          u is n words, each below p
+--   Residue p n          the residues
+--   residues p n         the list of all of them
+--   sum p u v            u + v, coefficient by coefficient; also of polynomials of different degrees
+--   scale p c u          c·u
+--   constant n c         the constant c
+--   timesX p t u         X·u modulo T: u shifted up by one place, minus its top coefficient times t
+--   product p t u v      u·v modulo T, by Horner's rule in u
+--   power p t u k        u^k modulo T
+--   residueOfX p t       X modulo T; for n = 1 the constant −t0
+--   substitute p t s u   u(S) modulo T, by Horner's rule
+--   modulusAt p t s m    M(S) modulo T, where M is the monic polynomial with the lower words m
+use mathlib.Core.List.{List, [], _∷_, _++_, map}
+use Prim.Native.Nat.{ℕ, zero, suc, _+_, _-_, _*_, _%_, _<_}
+use lib.ListN.{length, replicate}
+use Rattle.algebra.specs.Lists.{range}
+
+pub data Words (p : ℕ) : ℕ → List ℕ → Type 0 where
+  none : Words p 0 []
+  more : {a n : ℕ} {u : List ℕ} → a < p → Words p n u → Words p (suc n) (a ∷ u)
+
+abbrev pub Residue : ℕ → ℕ → Type 0
+Residue p n = (u : List ℕ) × Words p n u
+
+-- each list of `us` behind each of the words
+unfoldable pub prefixed : List ℕ → List (List ℕ) → List (List ℕ)
+prefixed [] us = []
+prefixed (a ∷ words) us = map (λ u. a ∷ u) us ++ prefixed words us
+
+unfoldable pub residues : ℕ → ℕ → List (List ℕ)
+residues p zero = [] ∷ []
+residues p (suc n) = prefixed (range 0 p) (residues p n)
+
+unfoldable pub sum : ℕ → List ℕ → List ℕ → List ℕ
+sum p [] v = v
+sum p (a ∷ u) [] = a ∷ u
+sum p (a ∷ u) (b ∷ v) = (a + b) % p ∷ sum p u v
+
+unfoldable pub scale : ℕ → ℕ → List ℕ → List ℕ
+scale p c [] = []
+scale p c (a ∷ u) = (c * a) % p ∷ scale p c u
+
+unfoldable pub constant : ℕ → ℕ → List ℕ
+constant zero c = []
+constant (suc n) c = c ∷ replicate n 0
+
+-- the words of u one place higher, behind c; the top word falls out
+unfoldable pub shift : ℕ → List ℕ → List ℕ
+shift c [] = []
+shift c (a ∷ u) = c ∷ shift a u
+
+-- the word that falls out: the last of u, c where u is empty
+unfoldable pub top : ℕ → List ℕ → ℕ
+top c [] = c
+top c (a ∷ u) = top a u
+
+unfoldable pub timesX : ℕ → List ℕ → List ℕ → List ℕ
+timesX p t u = sum p (shift 0 u) (scale p (p - top 0 u) t)
+
+unfoldable pub product : ℕ → List ℕ → List ℕ → List ℕ → List ℕ
+product p t [] v = constant (length t) 0
+product p t (c ∷ u) v = sum p (scale p c v) (timesX p t (product p t u v))
+
+unfoldable pub power : ℕ → List ℕ → List ℕ → ℕ → List ℕ
+power p t u zero = constant (length t) 1
+power p t u (suc k) = product p t u (power p t u k)
+
+unfoldable pub residueOfX : ℕ → List ℕ → List ℕ
+residueOfX p t = timesX p t (constant (length t) 1)
+
+unfoldable pub substitute : ℕ → List ℕ → List ℕ → List ℕ → List ℕ
+substitute p t s [] = constant (length t) 0
+substitute p t s (c ∷ u) = sum p (constant (length t) c) (product p t s (substitute p t s u))
+
+unfoldable pub modulusAt : ℕ → List ℕ → List ℕ → List ℕ → List ℕ
+modulusAt p t s m = sum p (power p t s (length m)) (substitute p t s m)

@@ -1,0 +1,3 @@
+-- What the contracts on residues cite beside the definitions of the crate quotient: arrays that hold a residue, and the calls' answers.
+pub mod Array
+pub mod Calls

@@ -1,0 +1,1 @@
+// Residues modulo a monic polynomial of degree up to 16: product, power and substitution.
