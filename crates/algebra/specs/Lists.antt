@@ -3,6 +3,7 @@
 --   Distinct xs       no element stands in xs twice
 --   All P xs          every element of xs satisfies P
 --   all test xs       the same for a test
+--   equal xs ys       whether two lists of numbers are equal
 --   range a k         the k numbers a, a + 1, …
 --   first test d xs   the first element of xs that passes the test, d where none does
 use mathlib.Core.Path.{_≡_}
@@ -10,6 +11,7 @@ use mathlib.Core.Bool.{Bool, true, false, _&&_}
 use mathlib.Core.List.{List, [], _∷_}
 use mathlib.Core.Logic.{_⊎_}
 use Prim.Native.Nat.{ℕ, zero, suc}
+use lib.Dec.{eqb}
 
 abbrev pub Member : {A : Type 0} → A → List A → Type 0
 Member a [] = ⊥
@@ -26,6 +28,12 @@ All P (x ∷ xs) = P x × All P xs
 unfoldable pub all : {A : Type 0} → (A → Bool) → List A → Bool
 all test [] = true
 all test (x ∷ xs) = test x && all test xs
+
+unfoldable pub equal : List ℕ → List ℕ → Bool
+equal [] [] = true
+equal [] (y ∷ ys) = false
+equal (x ∷ xs) [] = false
+equal (x ∷ xs) (y ∷ ys) = eqb x y && equal xs ys
 
 unfoldable pub range : ℕ → ℕ → List ℕ
 range a zero = []

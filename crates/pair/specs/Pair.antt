@@ -1,0 +1,40 @@
+-- The pair and its checker (document 01, "The pair and its checker"). S and R are lists of n words, each below p.
+--   forward p t2 s u             the forward map sends u to u(S) mod T2
+--   backward p t1 r u            the backward map sends u to u(R) mod T1
+--   Congruences p t1 t2 s r      T1(S) = 0 mod T2, T2(R) = 0 mod T1, S(R) = X mod T1, R(S) = X mod T2
+--   accepts p t1 t2 s r          the same four as a test
+--   checkNumber p n t1 t2 s r    the checker's answer: 1, 2, 3, 4, 8, or 0 where it accepts
+use mathlib.Core.Path.{_≡_}
+use mathlib.Core.Bool.{Bool, _&&_, not}
+use mathlib.Core.List.{List, [], _∷_}
+use Prim.Native.Nat.{ℕ}
+use lib.ListN.{length}
+use Rattle.algebra.specs.Lists.{equal}
+use Rattle.modular.specs.Refusal.{refuse, badPrime, badDegree, badLength, badWord}
+use Rattle.quotient.specs.Residue.{constant, residueOfX, substitute, modulusAt}
+
+unfoldable pub forward : ℕ → List ℕ → List ℕ → List ℕ → List ℕ
+forward p t2 s u = substitute p t2 s u
+
+unfoldable pub backward : ℕ → List ℕ → List ℕ → List ℕ → List ℕ
+backward p t1 r u = substitute p t1 r u
+
+pub record Congruences (p : ℕ) (t1 t2 s r : List ℕ) : Type 0 where
+  pub root-of-t1 : modulusAt p t2 s t1 ≡ constant (length t2) 0
+  pub root-of-t2 : modulusAt p t1 r t2 ≡ constant (length t1) 0
+  pub s-of-r : substitute p t1 r s ≡ residueOfX p t1
+  pub r-of-s : substitute p t2 s r ≡ residueOfX p t2
+
+unfoldable pub accepts : ℕ → List ℕ → List ℕ → List ℕ → List ℕ → Bool
+accepts p t1 t2 s r =
+    equal (modulusAt p t2 s t1) (constant (length t2) 0)
+    && equal (modulusAt p t1 r t2) (constant (length t1) 0)
+    && equal (substitute p t1 r s) (residueOfX p t1)
+    && equal (substitute p t2 s r) (residueOfX p t2)
+
+unfoldable pub checkNumber : ℕ → ℕ → List ℕ → List ℕ → List ℕ → List ℕ → ℕ
+checkNumber p n t1 t2 s r =
+    refuse 1 (badPrime p)
+    (refuse 2 (badDegree n)
+    (refuse 3 (badLength n (t1 ∷ t2 ∷ s ∷ r ∷ []))
+    (refuse 4 (badWord p (t1 ∷ t2 ∷ s ∷ r ∷ [])) (refuse 8 (not (accepts p t1 t2 s r)) 0))))

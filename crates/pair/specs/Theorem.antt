@@ -1,0 +1,33 @@
+-- The checker's half of demand 3: what the answer 0 of `check` means. Read this file first; every name in it is explained in Pair.antt
+-- beside it, or in Residue.antt and Map.antt of the crate quotient.
+-- For every p, n and all lists: the answer is 0 exactly when p is a prime up to 65,535, n is 1 to 16, the four lists are n words below p
+-- and the four congruences hold; and then the two maps preserve sums, products and one on all residues, and each undoes the other.
+use mathlib.Core.Path.{_≡_}
+use mathlib.Core.List.{List}
+use Prim.Native.Nat.{ℕ, _≤_}
+use Rattle.algebra.specs.Prime.{Prime}
+use Rattle.quotient.specs.Map.{Preserves, Undoes}
+use Rattle.quotient.specs.Residue.{Words}
+use Rattle.pair.specs.Pair.{forward, backward, Congruences, checkNumber}
+
+-- two models of one size, and a pair of lists: what 1 to 4 do not refuse
+pub record Given (p n : ℕ) (t1 t2 s r : List ℕ) : Type 0 where
+  pub prime : Prime p
+  pub small : p ≤ 65535
+  pub degree : (1 ≤ n) × (n ≤ 16)
+  pub modulus1 : Words p n t1
+  pub modulus2 : Words p n t2
+  pub words-s : Words p n s
+  pub words-r : Words p n r
+
+pub record Isomorphisms (p n : ℕ) (t1 t2 s r : List ℕ) : Type 0 where
+  pub forward-preserves : Preserves p t1 t2 (forward p t2 s)
+  pub backward-preserves : Preserves p t2 t1 (backward p t1 r)
+  pub back-undoes-forth : Undoes p n (backward p t1 r) (forward p t2 s)
+  pub forth-undoes-back : Undoes p n (forward p t2 s) (backward p t1 r)
+
+abbrev pub CheckerTheorem : Type 0
+CheckerTheorem =
+    (p n : ℕ) (t1 t2 s r : List ℕ)
+    → (checkNumber p n t1 t2 s r ≡ 0 → Given p n t1 t2 s r × Congruences p t1 t2 s r × Isomorphisms p n t1 t2 s r)
+    × (Given p n t1 t2 s r → Congruences p t1 t2 s r → checkNumber p n t1 t2 s r ≡ 0)

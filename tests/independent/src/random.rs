@@ -1,0 +1,83 @@
+//! Inputs: a fixed sequence of pseudo-random numbers (xorshift), and lists of words drawn from it, extremes and damaged ones included.
+
+pub struct Random(u64);
+
+impl Random {
+    pub fn new(seed: u64) -> Self {
+        Random(seed)
+    }
+
+    pub fn next(&mut self) -> u64 {
+        self.0 ^= self.0 << 13;
+        self.0 ^= self.0 >> 7;
+        self.0 ^= self.0 << 17;
+        self.0
+    }
+
+    pub fn below(&mut self, limit: u64) -> u64 {
+        (self.next() >> 11) % limit
+    }
+
+    /// Whether an event of one chance in so many occurs.
+    pub fn once_in(&mut self, chances: u64) -> bool {
+        self.below(chances) == 0
+    }
+
+    fn one_of(&mut self, choices: &[u32]) -> u32 {
+        choices[self.below(choices.len() as u64) as usize]
+    }
+
+    /// A prime, small, large or between.
+    pub fn prime(&mut self) -> u32 {
+        if self.once_in(2) {
+            return self.one_of(&[2, 3, 5, 7, 13, 17, 251, 257, 1009, 32_749, 65_519, 65_521]);
+        }
+        loop {
+            let p = self.below(65_536) as u32;
+            if crate::document::is_prime(p) {
+                return p;
+            }
+        }
+    }
+
+    /// Mostly a prime; sometimes a number that refusal 1 is for.
+    pub fn modulus_number(&mut self) -> u32 {
+        if self.once_in(12) {
+            self.one_of(&[0, 1, 4, 6, 253 * 257, 63_001, 65_025, 65_535, 65_536, 65_537, 1_048_573, u32::MAX])
+        } else {
+            self.prime()
+        }
+    }
+
+    /// Mostly 1 to 16; sometimes a number that refusal 2 is for.
+    pub fn degree(&mut self) -> u32 {
+        if self.once_in(16) {
+            self.one_of(&[0, 17, 18, 32, 65_536, u32::MAX])
+        } else {
+            1 + self.below(16) as u32
+        }
+    }
+
+    /// A list of n words below p; of another length, or with a word of p or more, once in a while.
+    pub fn words(&mut self, p: u32, n: u32, damaged: bool) -> Vec<u16> {
+        let mut length = n.min(20) as usize;
+        if damaged && self.once_in(12) {
+            length = self.one_of(&[0, n.min(20).saturating_sub(1), n.min(20) + 1, 16, 17]) as usize;
+        }
+        let top = p.clamp(1, 65_536) - 1;
+        let style = self.below(6);
+        let mut list: Vec<u16> = (0..length)
+            .map(|_| match style {
+                0 => 0,
+                1 => top as u16,
+                2 => (self.below(2) * u64::from(top)) as u16,
+                _ => self.below(u64::from(top) + 1) as u16,
+            })
+            .collect();
+        if damaged && length > 0 && p < 65_536 && self.once_in(12) {
+            let place = self.below(length as u64) as usize;
+            list[place] = if self.once_in(2) { p as u16 } else { u16::MAX };
+        }
+        list
+    }
+}
