@@ -1,0 +1,2 @@
+-- The laws of commutative rings, of primes and of polynomials.
+pub mod RingLaws
