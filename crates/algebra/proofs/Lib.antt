@@ -1,2 +1,3 @@
 -- The laws of commutative rings, of primes and of polynomials.
 pub mod RingLaws
+pub mod Modulo
