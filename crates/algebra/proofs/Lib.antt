@@ -1,3 +1,4 @@
 -- The laws of commutative rings, of primes and of polynomials.
 pub mod RingLaws
 pub mod Modulo
+pub mod Normalise
