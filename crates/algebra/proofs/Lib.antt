@@ -2,3 +2,4 @@
 pub mod RingLaws
 pub mod Modulo
 pub mod Normalise
+pub mod Euclid
