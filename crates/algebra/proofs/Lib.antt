@@ -3,3 +3,5 @@ pub mod RingLaws
 pub mod Modulo
 pub mod Normalise
 pub mod Euclid
+pub mod Binomial
+pub mod Frobenius
