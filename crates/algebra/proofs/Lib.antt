@@ -5,3 +5,5 @@ pub mod Normalise
 pub mod Euclid
 pub mod Binomial
 pub mod Frobenius
+pub mod Lists
+pub mod Search
