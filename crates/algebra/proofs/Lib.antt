@@ -7,3 +7,5 @@ pub mod Binomial
 pub mod Frobenius
 pub mod Lists
 pub mod Search
+pub mod FieldLaws
+pub mod Roots
