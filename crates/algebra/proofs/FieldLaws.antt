@@ -1,5 +1,5 @@
 -- What the inverses of a field give: factors other than 0 cancel, and a product is 0 only where a factor is. Every law takes the field first.
-use mathlib.Core.Path.{_≡_, refl, sym, ap, _∙_}
+use mathlib.Core.Path.{_≡_, sym, ap, _∙_}
 use mathlib.Core.Logic.{_⊎_, inl, inr}
 use Prim.Native.Nat.{ℕ, zero, suc}
 use Rattle.algebra.specs.Ring.{CommutativeRing, Field, power}

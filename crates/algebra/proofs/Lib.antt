@@ -9,3 +9,4 @@ pub mod Lists
 pub mod Search
 pub mod FieldLaws
 pub mod Roots
+pub mod Units
