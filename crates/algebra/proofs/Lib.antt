@@ -10,3 +10,4 @@ pub mod Search
 pub mod FieldLaws
 pub mod Roots
 pub mod Units
+pub mod PowerRoots

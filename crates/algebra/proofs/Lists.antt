@@ -7,7 +7,7 @@
 use mathlib.Core.Path.{_≡_, refl, sym, ap, _∙_, subst}
 use mathlib.Core.List.{List, [], _∷_, _++_, map, foldr}
 use mathlib.Core.Logic.{_⊎_, inl, inr, ⊎-elim}
-use Prim.Native.Nat.{suc, _+_, _≤_}
+use Prim.Native.Nat.{suc, _+_, _≤_, _<_}
 use native.Mathlib.Omega.{arith}
 use lib.ListN.{length, length-map}
 use Rattle.algebra.specs.Lists.{Member, Distinct, All}
@@ -18,6 +18,10 @@ module _ {A : Type 0} where
 
   pub member-equal : (xs : List A) {a b : A} → a ≡ b → Member a xs → Member b xs
   member-equal xs e m = subst (λ (x : A). Member x xs) e m
+
+  pub some-member : (xs : List A) → 0 < length xs → (a : A) × Member a xs
+  some-member [] h = absurd (omega arith)
+  some-member (x ∷ xs) h = (x, inl refl)
 
   pub all-member : (P : A → Type 0) (xs : List A) → All P xs → (a : A) → Member a xs → P a
   all-member P (x ∷ xs) h a (inl e) = subst P (sym e) (h .0)
