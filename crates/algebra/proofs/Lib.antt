@@ -11,3 +11,4 @@ pub mod FieldLaws
 pub mod Roots
 pub mod Units
 pub mod PowerRoots
+pub mod Order

@@ -1,0 +1,63 @@
+-- Elements of order n: z^n = 1 and no lower power of z but z^0 is 1. The powers of z then repeat with period exactly n.
+--   HasOrder R z n   z has order n
+use mathlib.Core.Path.{_≡_, sym, ap, _∙_, _≡⟨_⟩_, _∎}
+use Prim.Native.Nat.{ℕ, zero, suc, _+_, _*_, _/_, _%_, _≤_, _<_}
+use native.Mathlib.Nat.{mod-lt, div-add-mod', mul-comm as ℕ·mul-comm, le-dest, le-trans, le-of-lt}
+use native.Mathlib.Decide.{ℕ-discrete, decLe}
+use native.Mathlib.Omega.{arith}
+use Rattle.algebra.specs.Ring.{CommutativeRing, power}
+use Rattle.algebra.proofs.RingLaws.{mul-assoc, mul-comm, one-mul, power-zero, power-add, power-mul, power-of-one}
+
+pub record HasOrder {A : Type 0} (R : CommutativeRing A) (z : A) (n : ℕ) : Type 0 where
+  pub period : power R z n ≡ R .one
+  pub least : (m : ℕ) → 0 < m → m < n → power R z m ≡ R .one → ⊥
+
+module _ {A : Type 0} (R : CommutativeRing A) (z : A) where
+  open CommutativeRing R using (one as 𝟏, mul as _⊗_)
+
+  infixl 70 _⊗_
+  pub power-mod : (n : ℕ) → power R z n ≡ 𝟏 → (j : ℕ) → power R z j ≡ power R z (j % n)
+  power-mod n e j =
+      power R z j
+      ≡⟨ ap (power R z) (sym (div-add-mod' j n)) ⟩ power R z (j / n * n + j % n)
+      ≡⟨ power-add R z (j / n * n) (j % n) ⟩ power R z (j / n * n) ⊗ power R z (j % n)
+      ≡⟨ ap (λ k. power R z k ⊗ power R z (j % n)) (ℕ·mul-comm (j / n) n) ⟩ power R z (n * (j / n)) ⊗ power R z (j % n)
+      ≡⟨ (simp (power-mul R, e, power-of-one R, one-mul R)) ⟩ power R z (j % n)
+      ∎
+
+  pub one-of-multiple : (n : ℕ) → power R z n ≡ 𝟏 → (j : ℕ) → j % n ≡ 0 → power R z j ≡ 𝟏
+  one-of-multiple n e j h = power-mod n e j ∙ ap (power R z) h ∙ power-zero R z
+
+  -- z^j·z^e = 1 and z^j = z^(j + d): multiply by z^e
+  cancel-power : (j d e : ℕ) → power R z (j + e) ≡ 𝟏 → power R z j ≡ power R z (j + d) → power R z d ≡ 𝟏
+  cancel-power j d e one same =
+      power R z d
+      ≡⟨ sym (one-mul R (power R z d)) ∙ ap (λ t. t ⊗ power R z d) (sym one ∙ power-add R z j e) ⟩ power R z j ⊗ power R z e ⊗ power R z d
+      ≡⟨ (simp (mul-assoc R, mul-comm R)) ⟩ power R z j ⊗ power R z d ⊗ power R z e
+      ≡⟨ ap (λ t. t ⊗ power R z e) (sym (power-add R z j d) ∙ sym same) ⟩ power R z j ⊗ power R z e
+      ≡⟨ sym (power-add R z j e) ∙ one ⟩ 𝟏
+      ∎
+
+  module _ (n : ℕ) (order : HasOrder R z n) where
+    pub multiple-of-one : 0 < n → (j : ℕ) → power R z j ≡ 𝟏 → j % n ≡ 0
+    multiple-of-one pos j e = by-rest (ℕ-discrete (j % n) 0)
+      where
+        by-rest : Dec (j % n ≡ 0) → j % n ≡ 0
+        by-rest (yes h) = h
+        by-rest (no h) = absurd (order .least (j % n) (omega arith) (mod-lt j pos) (sym (power-mod n (order .period) j) ∙ e))
+
+    ordered-equal : (j k : ℕ) → j ≤ k → k < n → power R z j ≡ power R z k → j ≡ k
+    ordered-equal j k le lt e = by-gap (le-dest le) (le-dest (le-trans le (le-of-lt lt)))
+      where
+        by-gap : (d : ℕ) × (j + d ≡ k) → (r : ℕ) × (j + r ≡ n) → j ≡ k
+        by-gap (zero, g) (r, h) = omega arith
+        by-gap (suc d, g) (r, h) =
+            absurd (order .least (suc d) (omega arith) (omega arith)
+            (cancel-power j (suc d) r (ap (power R z) h ∙ order .period) (e ∙ ap (power R z) (sym g))))
+
+    pub powers-distinct : (j k : ℕ) → j < n → k < n → power R z j ≡ power R z k → j ≡ k
+    powers-distinct j k hj hk e = by-order (decLe j k)
+      where
+        by-order : Dec (j ≤ k) → j ≡ k
+        by-order (yes le) = ordered-equal j k le hk e
+        by-order (no gt) = sym (ordered-equal k j (omega arith) hj (sym e))
