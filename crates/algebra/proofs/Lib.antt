@@ -12,3 +12,4 @@ pub mod Roots
 pub mod Units
 pub mod PowerRoots
 pub mod Order
+pub mod OrderExists
