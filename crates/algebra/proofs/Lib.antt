@@ -6,6 +6,7 @@ pub mod Euclid
 pub mod Binomial
 pub mod Frobenius
 pub mod Lists
+pub mod Counting
 pub mod Search
 pub mod FieldLaws
 pub mod Roots

@@ -1,15 +1,11 @@
--- Laws of lists as finite sets. Counting rests on one idea: take out of ys an element that stands in it; what is left is shorter by
--- one and has every other element. So a list without repetition is no longer than a list that has all its elements, an injective
--- map of a finite list into itself is onto, and a product over a finite set does not depend on the order.
---   Within xs ys      every element of xs stands in ys
---   without ys a m    ys without its element a, which stands where m says
---   Parted P xs       xs parted into the elements that satisfy P and those that do not
-use mathlib.Core.Path.{_≡_, refl, sym, ap, _∙_, subst}
-use mathlib.Core.List.{List, [], _∷_, _++_, map, foldr}
+-- Laws of lists as finite sets: membership, absence of repetition and 'every element' under appending and under a map.
+--   Within xs ys   every element of xs stands in ys
+use mathlib.Core.Path.{_≡_, refl, sym, ap, subst}
+use mathlib.Core.List.{List, [], _∷_, _++_, map}
 use mathlib.Core.Logic.{_⊎_, inl, inr, ⊎-elim}
-use Prim.Native.Nat.{suc, _+_, _≤_, _<_}
+use Prim.Native.Nat.{_<_}
 use native.Mathlib.Omega.{arith}
-use lib.ListN.{length, length-map}
+use lib.ListN.{length}
 use Rattle.algebra.specs.Lists.{Member, Distinct, All}
 
 module _ {A : Type 0} where
@@ -49,129 +45,6 @@ module _ {A : Type 0} where
   distinct-append (x ∷ xs) ys d e apart =
       (λ m. ⊎-elim (d .0) (apart x (inl refl)) (member-append xs ys x m), distinct-append xs ys (d .1) e (λ a m. apart a (inr m)))
 
-  -- ys without its element a, which stands where m says
-  abbrev pub without : (ys : List A) (a : A) → Member a ys → List A
-  without (y ∷ ys) a (inl e) = ys
-  without (y ∷ ys) a (inr m) = y ∷ without ys a m
-
-  pub without-length : (ys : List A) (a : A) (m : Member a ys) → length ys ≡ suc (length (without ys a m))
-  without-length (y ∷ ys) a (inl e) = refl
-  without-length (y ∷ ys) a (inr m) = ap suc (without-length ys a m)
-
-  -- every other element is left
-  pub without-keeps : (ys : List A) (a : A) (m : Member a ys) (b : A) → Member b ys → (b ≡ a) ⊎ Member b (without ys a m)
-  without-keeps (y ∷ ys) a (inl e) b (inl f) = inl (f ∙ sym e)
-  without-keeps (y ∷ ys) a (inl e) b (inr l) = inr l
-  without-keeps (y ∷ ys) a (inr m) b (inl f) = inr (inl f)
-  without-keeps (y ∷ ys) a (inr m) b (inr l) = ⊎-elim inl (λ k. inr (inr k)) (without-keeps ys a m b l)
-
-  pub without-within : (ys : List A) (a : A) (m : Member a ys) → Within (without ys a m) ys
-  without-within (y ∷ ys) a (inl e) b l = inr l
-  without-within (y ∷ ys) a (inr m) b (inl f) = inl f
-  without-within (y ∷ ys) a (inr m) b (inr l) = inr (without-within ys a m b l)
-
-  -- where nothing stands twice, nothing equal to a is left
-  pub without-lacks : (ys : List A) (a : A) (m : Member a ys) → Distinct ys → Member a (without ys a m) → ⊥
-  without-lacks (y ∷ ys) a (inl e) d l = d .0 (member-equal ys e l)
-  without-lacks (y ∷ ys) a (inr m) d (inl f) = d .0 (member-equal ys f m)
-  without-lacks (y ∷ ys) a (inr m) d (inr l) = without-lacks ys a m (d .1) l
-
-  pub without-distinct : (ys : List A) (a : A) (m : Member a ys) → Distinct ys → Distinct (without ys a m)
-  without-distinct (y ∷ ys) a (inl e) d = d .1
-  without-distinct (y ∷ ys) a (inr m) d = (λ l. d .0 (without-within ys a m y l), without-distinct ys a m (d .1))
-
-  -- taking x and the rest of xs out of ys
-  rest-within : (x : A) (xs ys : List A) (d : Distinct (x ∷ xs)) (h : Within (x ∷ xs) ys) → Within xs (without ys x (h x (inl refl)))
-  rest-within x xs ys d h a m =
-      ⊎-elim (λ e. absurd (d .0 (member-equal xs e m))) (λ l. l) (without-keeps ys x (h x (inl refl)) a (h a (inr m)))
-
-  pub distinct-within-length : (xs ys : List A) → Distinct xs → Within xs ys → length xs ≤ length ys
-  distinct-within-length [] ys d h = omega arith
-  distinct-within-length (x ∷ xs) ys d h =
-      let m : Member x ys = h x (inl refl) in
-      omega (arith, without-length ys x m, distinct-within-length xs (without ys x m) (d .1) (rest-within x xs ys d h))
-
-  -- the value of a commutative and associative operation over a finite set does not depend on the order
-  module _ (op : A → A → A) (e : A) (left-comm : (a b c : A) → op a (op b c) ≡ op b (op a c)) where
-    pub fold-without : (ys : List A) (a : A) (m : Member a ys) → foldr op e ys ≡ op a (foldr op e (without ys a m))
-    fold-without (y ∷ ys) a (inl f) = ap (λ (x : A). op x (foldr op e ys)) (sym f)
-    fold-without (y ∷ ys) a (inr m) = ap (op y) (fold-without ys a m) ∙ left-comm y a (foldr op e (without ys a m))
-
-    pub fold-same-members : (xs ys : List A) → Distinct xs → Distinct ys → Within xs ys → Within ys xs → foldr op e xs ≡ foldr op e ys
-    fold-same-members [] [] d c h k = refl
-    fold-same-members [] (y ∷ ys) d c h k = absurd (k y (inl refl))
-    fold-same-members (x ∷ xs) ys d c h k =
-        let m : Member x ys = h x (inl refl) in
-        ap (op x) (fold-same-members xs (without ys x m) (d .1) (without-distinct ys x m c) (rest-within x xs ys d h) (back m)) ∙ sym (fold-without ys x m)
-      where
-        back : (m : Member x ys) → Within (without ys x m) xs
-        back m a l = ⊎-elim (λ f. absurd (without-lacks ys x m c (member-equal (without ys x m) f l))) (λ n. n) (k a (without-within ys x m a l))
-
-  module _ (same : Discrete A) where
-    pub member? : (a : A) (xs : List A) → Dec (Member a xs)
-    member? a [] = no (λ m. m)
-    member? a (x ∷ xs) = by-head (same a x) (member? a xs)
-      where
-        by-head : Dec (a ≡ x) → Dec (Member a xs) → Dec (Member a (x ∷ xs))
-        by-head (yes e) t = yes (inl e)
-        by-head (no n) (yes m) = yes (inr m)
-        by-head (no n) (no k) = no (⊎-elim n k)
-
-    -- as many elements as ys has, all of them in ys: all of ys
-    pub distinct-within-all : (xs ys : List A) → Distinct xs → Within xs ys → length ys ≤ length xs → Within ys xs
-    distinct-within-all xs ys d h long a m = by-member (member? a xs)
-      where
-        by-member : Dec (Member a xs) → Member a xs
-        by-member (yes l) = l
-        by-member (no n) =
-            absurd (let k : length (a ∷ xs) ≤ length ys = distinct-within-length (a ∷ xs) ys (n, d) (λ b. ⊎-elim (λ e. member-equal ys (sym e) m) (h b)) in omega arith)
-
-  -- the elements that satisfy P, and those that do not
-  pub record Parted (P : A → Type 0) (xs : List A) : Type 0 where
-    pub passing : List A
-    pub failing : List A
-    pub all-pass : All P passing
-    pub all-fail : All (λ a. P a → ⊥) failing
-    pub passing-within : Within passing xs
-    pub failing-within : Within failing xs
-    pub passing-distinct : Distinct xs → Distinct passing
-    pub failing-distinct : Distinct xs → Distinct failing
-    pub lengths : length passing + length failing ≡ length xs
-
-  pub part : (P : A → Type 0) → ((a : A) → Dec (P a)) → (xs : List A) → Parted P xs
-  part P test [] =
-      record { passing = []; failing = []; all-pass = tt; all-fail = tt; passing-within = λ a m. m; failing-within = λ a m. m; passing-distinct = λ d. d; failing-distinct = λ d. d; lengths = omega arith }
-  part P test (x ∷ xs) = by-test (test x) (part P test xs)
-    where
-      under : (ys : List A) → Within ys xs → Within (x ∷ ys) (x ∷ xs)
-      under ys h a = ⊎-elim inl (λ m. inr (h a m))
-
-      by-test : Dec (P x) → Parted P xs → Parted P (x ∷ xs)
-      by-test (yes h) r =
-          record {
-            passing = x ∷ r .passing;
-            failing = r .failing;
-            all-pass = (h, r .all-pass);
-            all-fail = r .all-fail;
-            passing-within = under (r .passing) (r .passing-within);
-            failing-within = λ a m. inr (r .failing-within a m);
-            passing-distinct = λ d. (λ m. d .0 (r .passing-within x m), r .passing-distinct (d .1));
-            failing-distinct = λ d. r .failing-distinct (d .1);
-            lengths = omega (arith, r .lengths);
-          }
-      by-test (no n) r =
-          record {
-            passing = r .passing;
-            failing = x ∷ r .failing;
-            all-pass = r .all-pass;
-            all-fail = (n, r .all-fail);
-            passing-within = λ a m. inr (r .passing-within a m);
-            failing-within = under (r .failing) (r .failing-within);
-            passing-distinct = λ d. r .passing-distinct (d .1);
-            failing-distinct = λ d. (λ m. d .0 (r .failing-within x m), r .failing-distinct (d .1));
-            lengths = omega (arith, r .lengths);
-          }
-
 module _ {A B : Type 0} (f : A → B) where
   pub member-map : (xs : List A) (a : A) → Member a xs → Member (f a) (map f xs)
   member-map (x ∷ xs) a (inl e) = inl (ap f e)
@@ -192,12 +65,3 @@ module _ {A B : Type 0} (f : A → B) where
     λ m. let (a, l, e) = map-member xs (f x) m in d .0 (member-equal xs (sym (inj x a (inl refl) (inr l) e)) l),
     distinct-map xs (λ a b l m. inj a b (inr l) (inr m)) (d .1),
   )
-
--- an injective map of a finite set into itself is onto
-pub injective-onto : {A : Type 0} → Discrete A → (f : A → A) (xs : List A) → Distinct xs → ((a : A) → Member a xs → Member (f a) xs)
-    → ((a b : A) → Member a xs → Member b xs → f a ≡ f b → a ≡ b) → (b : A) → Member b xs → (a : A) × Member a xs × (b ≡ f a)
-injective-onto {A} same f xs d into inj b m =
-    map-member f xs b (distinct-within-all same (map f xs) xs (distinct-map f xs inj d) image-within (omega (arith, length-map xs f)) b m)
-  where
-    image-within : Within (map f xs) xs
-    image-within c l = let (a, k, e) = map-member f xs c l in member-equal xs (sym e) (into a k)

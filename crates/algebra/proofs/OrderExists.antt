@@ -17,7 +17,8 @@ use lib.Dec.{ltb, eqb}
 use borrow.Author.Tests.{ltb-true, ne-eqb, not-true}
 use Rattle.algebra.specs.Lists.{Member, Distinct, all, range}
 use Rattle.algebra.specs.Ring.{CommutativeRing, Field, power}
-use Rattle.algebra.proofs.Lists.{some-member, all-member, Parted, part}
+use Rattle.algebra.proofs.Lists.{some-member, all-member}
+use Rattle.algebra.proofs.Counting.{Parted, part}
 use Rattle.algebra.proofs.Search.{member-of-all, all-of-members, range-member}
 use Rattle.algebra.proofs.RingLaws.{power-mul, power-of-one}
 use Rattle.algebra.proofs.Units.{Units}
@@ -78,27 +79,28 @@ missed R z n es period avoids k one =
     (λ h. avoids e l (ap (power R z) (sym h) ∙ sym (power-mod R z n period (k * j)) ∙ power-mul R z k j ∙ ap (λ t. power R t j) one ∙ power-of-one R j)))))
 
 module _ {A : Type 0} (F : Field A) where
-  open CommutativeRing (F .ring) using (one as 𝟏)
+  open Field F using (ring as R)
+  open CommutativeRing R using (one as 𝟏)
 
   -- more elements than the exponents es add up to: for one of them no power with an exponent of es is 1
   avoid : (es : List ℕ) → ((e : ℕ) → Member e es → 0 < e) → (ys : List A) → Distinct ys → total es < length ys
-      → (z : A) × Member z ys × ((e : ℕ) → Member e es → power (F .ring) z e ≡ 𝟏 → ⊥)
+      → (z : A) × Member z ys × ((e : ℕ) → Member e es → power R z e ≡ 𝟏 → ⊥)
   unfolding total
   avoid [] positive ys d lt = let (z, l) = some-member ys (omega arith) in (z, l, λ e none. absurd none)
   avoid (e ∷ es) positive ys d lt =
-      let r : Parted (λ u. power (F .ring) u e ≡ 𝟏) ys = part (λ u. power (F .ring) u e ≡ 𝟏) (λ u. F .discrete (power (F .ring) u e) 𝟏) ys in
+      let r : Parted (λ u. power R u e ≡ 𝟏) ys = part (λ u. power R u e ≡ 𝟏) (λ u. F .discrete (power R u e) 𝟏) ys in
       let few : length (r .passing) ≤ e = power-roots-at-most F e 𝟏 (r .passing) (positive e (inl refl)) (r .passing-distinct d) (r .all-pass) in
       let (z, l, k) = avoid es (λ f m. positive f (inr m)) (r .failing) (r .failing-distinct d) (omega (arith, r .lengths)) in
-      (z, r .failing-within z l, λ f. ⊎-elim (λ same h. all-member _ (r .failing) (r .all-fail) z l (ap (power (F .ring) z) (sym same) ∙ h)) (k f))
+      (z, r .failing-within z l, λ f. ⊎-elim (λ same h. all-member _ (r .failing) (r .all-fail) z l (ap (power R z) (sym same) ∙ h)) (k f))
 
   module _ (us : List A) (units : Units F us) (n : ℕ) where
-    from-sufficient : (es : List ℕ) → Sufficient n es → (m : ℕ) → length us ≡ n * m → (z : A) × HasOrder (F .ring) z n
+    from-sufficient : (es : List ℕ) → Sufficient n es → (m : ℕ) → length us ≡ n * m → (z : A) × HasOrder R z n
     from-sufficient es s m count =
-        let r : PowerRoots (F .ring) n 𝟏 = power-roots F us units n m count 𝟏 (power-of-one (F .ring) m) in
+        let r : PowerRoots R n 𝟏 = power-roots F us units n m count 𝟏 (power-of-one R m) in
         let (z, l, avoids) = avoid es (s .positive) (r .roots) (r .distinct) (le-trans (s .small) (r .many)) in
-        let period : power (F .ring) z n ≡ 𝟏 = all-member _ (r .roots) (r .each) z l in
-        (z, record { period = period; least = λ k pos lt e. s .reached k pos lt (missed (F .ring) z n es period avoids k e) })
+        let period : power R z n ≡ 𝟏 = all-member _ (r .roots) (r .each) z l in
+        (z, record { period = period; least = λ k pos lt e. s .reached k pos lt (missed R z n es period avoids k e) })
 
-    pub order-exists : 0 < n → n ≤ 16 → (m : ℕ) → length us ≡ n * m → (z : A) × HasOrder (F .ring) z n
+    pub order-exists : 0 < n → n ≤ 16 → (m : ℕ) → length us ≡ n * m → (z : A) × HasOrder R z n
     order-exists pos le m count =
         from-sufficient (maximalDivisors n) (sufficient n (maximalDivisors n) (member-of-all (λ n. suffices n (maximalDivisors n)) (range 1 16) suffices-to-sixteen n (range-member 1 16 n pos (omega arith)))) m count

@@ -13,7 +13,8 @@ use native.Mathlib.Omega.{arith}
 use lib.ListN.{length}
 use Rattle.algebra.specs.Lists.{Member, Distinct, All}
 use Rattle.algebra.specs.Ring.{CommutativeRing, Field, power, value}
-use Rattle.algebra.proofs.Lists.{some-member, all-member, member-all, without-length, Parted, part}
+use Rattle.algebra.proofs.Lists.{some-member, all-member, member-all}
+use Rattle.algebra.proofs.Counting.{without-length, Parted, part}
 use Rattle.algebra.proofs.FieldLaws.{mul-right-cases}
 use Rattle.algebra.proofs.RingLaws.{ring-laws, add-left-cancel, add-zero, zero-add, mul-zero, add-comm, mul-assoc, mul-one, one-mul, power-zero, power-suc, power-one, power-mul, neg-add}
 use Rattle.algebra.proofs.Roots.{value-nil, value-cons, Zero, Root, roots-at-most-degree}
@@ -89,57 +90,58 @@ module _ {A : Type 0} (R : CommutativeRing A) where
     pub many : k ≤ length roots
 
 module _ {A : Type 0} (F : Field A) where
-  open CommutativeRing (F .ring) using (zero as 𝟎, one as 𝟏, add as _⊕_, neg as ⊖_, mul as _⊗_)
+  open Field F using (ring as R)
+  open CommutativeRing R using (zero as 𝟎, one as 𝟏, add as _⊕_, neg as ⊖_, mul as _⊗_)
 
   infixl 60 _⊕_
   infixl 70 _⊗_
   infix 80 ⊖_
   -- the roots of X^k − b
-  pub power-roots-at-most : (k : ℕ) (b : A) (rs : List A) → 0 < k → Distinct rs → All (λ u. power (F .ring) u k ≡ b) rs → length rs ≤ k
+  pub power-roots-at-most : (k : ℕ) (b : A) (rs : List A) → 0 < k → Distinct rs → All (λ u. power R u k ≡ b) rs → length rs ≤ k
   power-roots-at-most zero b rs pos d h = absurd (omega arith)
   power-roots-at-most (suc k) b rs pos d h =
-      let f : List A = ⊖ b ∷ shifted (F .ring) k (𝟏 ∷ []) in
-      let few : length rs < length f = roots-at-most-degree F rs f (λ z. F .one-ne-zero (shifted-zero (F .ring) k (𝟏 ∷ []) (z .1) .0)) d (member-all (Root F f) rs root) in
-      omega (arith, few, shifted-length (F .ring) k (𝟏 ∷ []))
+      let f : List A = ⊖ b ∷ shifted R k (𝟏 ∷ []) in
+      let few : length rs < length f = roots-at-most-degree F rs f (λ z. F .one-ne-zero (shifted-zero R k (𝟏 ∷ []) (z .1) .0)) d (member-all (Root F f) rs root) in
+      omega (arith, few, shifted-length R k (𝟏 ∷ []))
     where
-      root : (u : A) → Member u rs → Root F (⊖ b ∷ shifted (F .ring) k (𝟏 ∷ [])) u
+      root : (u : A) → Member u rs → Root F (⊖ b ∷ shifted R k (𝟏 ∷ [])) u
       root u m =
-          constant-value (F .ring) (⊖ b) k (𝟏 ∷ []) u ∙ ap (λ t. ⊖ b ⊕ power (F .ring) u (suc k) ⊗ t) (value-one (F .ring) u) ∙ ap (λ t. ⊖ b ⊕ t) (mul-one (F .ring) _ ∙ all-member _ rs h u m) ∙ neg-add (F .ring) b
+          constant-value R (⊖ b) k (𝟏 ∷ []) u ∙ ap (λ t. ⊖ b ⊕ power R u (suc k) ⊗ t) (value-one R u) ∙ ap (λ t. ⊖ b ⊕ t) (mul-one R _ ∙ all-member _ rs h u m) ∙ neg-add R b
 
   module _ (us : List A) (units : Units F us) where
     -- an element whose k-th power is not b makes G(X^k) zero
-    geometric-root : (k i : ℕ) → length us ≡ suc k * suc i → (b : A) → power (F .ring) b (suc i) ≡ 𝟏 → (u : A) → Member u us
-        → (power (F .ring) u (suc k) ≡ b → ⊥) → Root F (geometric (F .ring) k b i) u
+    geometric-root : (k i : ℕ) → length us ≡ suc k * suc i → (b : A) → power R b (suc i) ≡ 𝟏 → (u : A) → Member u us
+        → (power R u (suc k) ≡ b → ⊥) → Root F (geometric R k b i) u
     geometric-root k i count b e u m apart =
-        let z : A = power (F .ring) u (suc k) in
-        let g : A = value (F .ring) (geometric (F .ring) k b i) u in
-        let one : power (F .ring) z (suc i) ≡ 𝟏 =
-        sym (power-mul (F .ring) u (suc k) (suc i)) ∙ ap (power (F .ring) u) (sym count) ∙ power-units F us units u (units .nonzero u m) in
+        let z : A = power R u (suc k) in
+        let g : A = value R (geometric R k b i) u in
+        let one : power R z (suc i) ≡ 𝟏 =
+        sym (power-mul R u (suc k) (suc i)) ∙ ap (power R u) (sym count) ∙ power-units F us units u (units .nonzero u m) in
         let same : z ⊗ g ≡ b ⊗ g =
-        add-left-cancel (F .ring) 𝟏 (z ⊗ g) (b ⊗ g) (ap (λ t. t ⊕ z ⊗ g) (sym e) ∙ sym (geometric-sum (F .ring) k b i u) ∙ ap (λ t. t ⊕ b ⊗ g) one) in
+        add-left-cancel R 𝟏 (z ⊗ g) (b ⊗ g) (ap (λ t. t ⊕ z ⊗ g) (sym e) ∙ sym (geometric-sum R k b i u) ∙ ap (λ t. t ⊕ b ⊗ g) one) in
         ⊎-elim (λ h. absurd (apart h)) (λ h. h) (mul-right-cases F z b g same)
 
-    pub power-roots : (k m : ℕ) → length us ≡ k * m → (b : A) → power (F .ring) b m ≡ 𝟏 → PowerRoots (F .ring) k b
+    pub power-roots : (k m : ℕ) → length us ≡ k * m → (b : A) → power R b m ≡ 𝟏 → PowerRoots R k b
     power-roots zero m count b e = record { roots = []; distinct = tt; each = tt; many = omega arith }
     power-roots (suc k) zero count b e = absurd (omega (arith, count, without-length us 𝟏 (units .complete 𝟏 (F .one-ne-zero))))
-    power-roots (suc k) (suc i) count b e = from-parts (part (λ u. power (F .ring) u (suc k) ≡ b) (λ u. F .discrete (power (F .ring) u (suc k)) b) us)
+    power-roots (suc k) (suc i) count b e = from-parts (part (λ u. power R u (suc k) ≡ b) (λ u. F .discrete (power R u (suc k)) b) us)
       where
-        from-parts : Parted (λ u. power (F .ring) u (suc k) ≡ b) us → PowerRoots (F .ring) (suc k) b
+        from-parts : Parted (λ u. power R u (suc k) ≡ b) us → PowerRoots R (suc k) b
         from-parts r =
-            let f : List A = geometric (F .ring) k b i in
+            let f : List A = geometric R k b i in
             let few : length (r .failing) < length f =
-            roots-at-most-degree F (r .failing) f (λ z. F .one-ne-zero (geometric-zero (F .ring) k b i z)) (r .failing-distinct (units .distinct))
+            roots-at-most-degree F (r .failing) f (λ z. F .one-ne-zero (geometric-zero R k b i z)) (r .failing-distinct (units .distinct))
             (member-all (Root F f) (r .failing) (λ u m. geometric-root k i count b e u (r .failing-within u m) (all-member _ (r .failing) (r .all-fail) u m))) in
             record {
               roots = r .passing;
               distinct = r .passing-distinct (units .distinct);
               each = r .all-pass;
-              many = omega (arith, few, count, r .lengths, geometric-length (F .ring) k b i);
+              many = omega (arith, few, count, r .lengths, geometric-length R k b i);
             }
 
     -- one solution
-    pub power-root : (k m : ℕ) → 0 < k → length us ≡ k * m → (b : A) → power (F .ring) b m ≡ 𝟏 → (u : A) × (power (F .ring) u k ≡ b)
+    pub power-root : (k m : ℕ) → 0 < k → length us ≡ k * m → (b : A) → power R b m ≡ 𝟏 → (u : A) × (power R u k ≡ b)
     power-root k m pos count b e =
-        let r : PowerRoots (F .ring) k b = power-roots k m count b e in
+        let r : PowerRoots R k b = power-roots k m count b e in
         let (u, l) = some-member (r .roots) (le-trans pos (r .many)) in
         (u, all-member _ (r .roots) (r .each) u l)

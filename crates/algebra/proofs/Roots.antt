@@ -80,30 +80,31 @@ module _ {A : Type 0} (R : CommutativeRing A) where
   quotient-zero r (d ∷ h) z = let rest : Zero h = quotient-zero r h (z .1) in (constant-zero d h r rest (z .0), rest)
 
 module _ {A : Type 0} (F : Field A) where
-  open CommutativeRing (F .ring) using (zero as 𝟎, one as 𝟏, add as _⊕_, neg as ⊖_, mul as _⊗_)
+  open Field F using (ring as R)
+  open CommutativeRing R using (zero as 𝟎, one as 𝟏, add as _⊕_, neg as ⊖_, mul as _⊗_)
 
   infixl 60 _⊕_
   infixl 70 _⊗_
   abbrev pub Root : List A → A → Type 0
-  Root f r = value (F .ring) f r ≡ 𝟎
+  Root f r = value R f r ≡ 𝟎
 
   -- every other root of f is a root of the quotient
-  root-of-quotient : (c : A) (g : List A) (r s : A) → Root (c ∷ g) r → Root (c ∷ g) s → (s ≡ r → ⊥) → Root (quotient (F .ring) r g) s
+  root-of-quotient : (c : A) (g : List A) (r s : A) → Root (c ∷ g) r → Root (c ∷ g) s → (s ≡ r → ⊥) → Root (quotient R r g) s
   root-of-quotient c g r s at-r at-s apart =
-      ⊎-elim (λ e. absurd (apart e)) (λ z. z) (mul-right-cases F s r (value (F .ring) (quotient (F .ring) r g) s) (equal-values (F .ring) c g r s (at-s ∙ sym at-r)))
+      ⊎-elim (λ e. absurd (apart e)) (λ z. z) (mul-right-cases F s r (value R (quotient R r g) s) (equal-values R c g r s (at-s ∙ sym at-r)))
 
-  pub zero-of-roots : (rs f : List A) → Distinct rs → All (Root f) rs → length f ≤ length rs → Zero (F .ring) f
+  pub zero-of-roots : (rs f : List A) → Distinct rs → All (Root f) rs → length f ≤ length rs → Zero R f
   zero-of-roots [] [] d roots long = tt
   zero-of-roots [] (c ∷ g) d roots long = absurd (omega arith)
   zero-of-roots (r ∷ rs) [] d roots long = tt
   zero-of-roots (r ∷ rs) (c ∷ g) d roots long =
-      let others : All (Root (quotient (F .ring) r g)) rs =
-      member-all (Root (quotient (F .ring) r g)) rs
+      let others : All (Root (quotient R r g)) rs =
+      member-all (Root (quotient R r g)) rs
       (λ s m. root-of-quotient c g r s (roots .0) (all-member (Root (c ∷ g)) rs (roots .1) s m) (λ e. d .0 (member-equal rs e m))) in
-      let tail : Zero (F .ring) g =
-      quotient-zero (F .ring) r g (zero-of-roots rs (quotient (F .ring) r g) (d .1) others (omega (arith, quotient-length (F .ring) r g))) in
-      (constant-zero (F .ring) c g r tail (roots .0), tail)
+      let tail : Zero R g =
+      quotient-zero R r g (zero-of-roots rs (quotient R r g) (d .1) others (omega (arith, quotient-length R r g))) in
+      (constant-zero R c g r tail (roots .0), tail)
 
   -- d + 1 coefficients, not all 0: at most d roots
-  pub roots-at-most-degree : (rs f : List A) → (Zero (F .ring) f → ⊥) → Distinct rs → All (Root f) rs → length rs < length f
+  pub roots-at-most-degree : (rs f : List A) → (Zero R f → ⊥) → Distinct rs → All (Root f) rs → length rs < length f
   roots-at-most-degree rs f n d roots = lt-of-not-le (λ long. n (zero-of-roots rs f d roots long))

@@ -10,7 +10,8 @@ use native.Mathlib.Omega.{arith}
 use lib.ListN.{length, length-map}
 use Rattle.algebra.specs.Lists.{Member, Distinct}
 use Rattle.algebra.specs.Ring.{CommutativeRing, Field, power}
-use Rattle.algebra.proofs.Lists.{Within, map-member, distinct-map, distinct-within-all, fold-same-members}
+use Rattle.algebra.proofs.Lists.{Within, map-member, distinct-map}
+use Rattle.algebra.proofs.Counting.{distinct-within-all, fold-same-members}
 use Rattle.algebra.proofs.RingLaws.{mul-assoc, mul-comm, mul-left-comm, mul-one, power-zero, power-suc}
 use Rattle.algebra.proofs.FieldLaws.{mul-left-cancel, mul-ne-zero}
 
@@ -30,11 +31,12 @@ product-map-mul {A} R u (x ∷ xs) = ap (R .mul (R .mul u x)) (product-map-mul R
     regroup w q = simp (mul-assoc R, mul-left-comm R)
 
 module _ {A : Type 0} (F : Field A) where
-  open CommutativeRing (F .ring) using (zero as 𝟎, one as 𝟏, mul as _⊗_)
+  open Field F using (ring as R)
+  open CommutativeRing R using (zero as 𝟎, one as 𝟏, mul as _⊗_)
 
-  pub product-ne-zero : (xs : List A) → ((x : A) → Member x xs → x ≡ 𝟎 → ⊥) → product (F .ring) xs ≡ 𝟎 → ⊥
+  pub product-ne-zero : (xs : List A) → ((x : A) → Member x xs → x ≡ 𝟎 → ⊥) → product R xs ≡ 𝟎 → ⊥
   product-ne-zero [] h e = F .one-ne-zero e
-  product-ne-zero (x ∷ xs) h e = mul-ne-zero F x (product (F .ring) xs) (h x (inl refl)) (product-ne-zero xs (λ y m. h y (inr m))) e
+  product-ne-zero (x ∷ xs) h e = mul-ne-zero F x (product R xs) (h x (inl refl)) (product-ne-zero xs (λ y m. h y (inr m))) e
 
   module _ (us : List A) (units : Units F us) (u : A) (n : u ≡ 𝟎 → ⊥) where
     multiples-within : Within (map (_⊗_ u) us) us
@@ -46,14 +48,14 @@ module _ {A : Type 0} (F : Field A) where
     multiples-distinct = distinct-map (_⊗_ u) us (λ a b l m e. mul-left-cancel F u a b n e) (units .distinct)
 
     -- multiplication by u permutes the elements other than 0
-    multiples-product : product (F .ring) (map (_⊗_ u) us) ≡ product (F .ring) us
+    multiples-product : product R (map (_⊗_ u) us) ≡ product R us
     multiples-product =
-        fold-same-members (F .ring .mul) 𝟏 (mul-left-comm (F .ring)) (map (_⊗_ u) us) us multiples-distinct (units .distinct) multiples-within
+        fold-same-members (R .mul) 𝟏 (mul-left-comm R) (map (_⊗_ u) us) us multiples-distinct (units .distinct) multiples-within
         (distinct-within-all (F .discrete) (map (_⊗_ u) us) us multiples-distinct multiples-within (omega (arith, length-map us (_⊗_ u))))
 
-    pub power-units : power (F .ring) u (length us) ≡ 𝟏
+    pub power-units : power R u (length us) ≡ 𝟏
     power-units =
-        let P : A = product (F .ring) us in
-        let w : A = power (F .ring) u (length us) in
+        let P : A = product R us in
+        let w : A = power R u (length us) in
         mul-left-cancel F P w 𝟏 (product-ne-zero us (units .nonzero))
-        (mul-comm (F .ring) P w ∙ sym (product-map-mul (F .ring) u us) ∙ multiples-product ∙ sym (mul-one (F .ring) P))
+        (mul-comm R P w ∙ sym (product-map-mul R u us) ∙ multiples-product ∙ sym (mul-one R P))
