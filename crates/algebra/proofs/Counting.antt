@@ -2,6 +2,7 @@
 -- So a list without repetition is no longer than a list that has all its elements, an injective map of a finite list into itself is onto,
 -- and a product over a finite set does not depend on the order.
 --   without ys a m   ys without its element a, which stands where m says
+--   Chosen P xs      some elements of xs, each with P, none twice unless xs has it twice
 --   Parted P xs      xs parted into the elements that satisfy P and those that do not
 use mathlib.Core.Path.{_≡_, refl, sym, ap, _∙_}
 use mathlib.Core.List.{List, [], _∷_, map, foldr}
@@ -88,53 +89,45 @@ module _ {A : Type 0} where
         by-member : Dec (Member a xs) → Member a xs
         by-member (yes l) = l
         by-member (no n) =
-            absurd (let k : length (a ∷ xs) ≤ length ys = distinct-within-length (a ∷ xs) ys (n, d) (λ b. ⊎-elim (λ e. member-equal ys (sym e) m) (h b)) in omega arith)
+            let k : length (a ∷ xs) ≤ length ys = distinct-within-length (a ∷ xs) ys (n, d) (λ b. ⊎-elim (λ e. member-equal ys (sym e) m) (h b)) in
+            absurd (omega arith)
 
-  -- the elements that satisfy P, and those that do not
+  pub record Chosen (P : A → Type 0) (xs : List A) : Type 0 where
+    pub elements : List A
+    pub each : All P elements
+    pub within : Within elements xs
+    pub distinct : Distinct xs → Distinct elements
+
+  take-next : (P : A → Type 0) (x : A) (xs : List A) → P x → Chosen P xs → Chosen P (x ∷ xs)
+  take-next P x xs h c =
+      record {
+        elements = x ∷ c .elements;
+        each = (h, c .each);
+        within = λ a. ⊎-elim inl (λ m. inr (c .within a m));
+        distinct = λ d. (λ m. d .0 (c .within x m), c .distinct (d .1));
+      }
+
+  skip-next : (P : A → Type 0) (x : A) (xs : List A) → Chosen P xs → Chosen P (x ∷ xs)
+  skip-next P x xs c = record { elements = c .elements; each = c .each; within = λ a m. inr (c .within a m); distinct = λ d. c .distinct (d .1) }
+
   pub record Parted (P : A → Type 0) (xs : List A) : Type 0 where
-    pub passing : List A
-    pub failing : List A
-    pub all-pass : All P passing
-    pub all-fail : All (λ a. P a → ⊥) failing
-    pub passing-within : Within passing xs
-    pub failing-within : Within failing xs
-    pub passing-distinct : Distinct xs → Distinct passing
-    pub failing-distinct : Distinct xs → Distinct failing
-    pub lengths : length passing + length failing ≡ length xs
+    pub passing : Chosen P xs
+    pub failing : Chosen (λ a. P a → ⊥) xs
+    pub lengths : length (passing .elements) + length (failing .elements) ≡ length xs
+
+  pub chosen-none : (P : A → Type 0) (xs : List A) → Chosen P xs
+  chosen-none P xs = record { elements = []; each = tt; within = λ a m. absurd m; distinct = λ d. tt }
 
   pub part : (P : A → Type 0) → ((a : A) → Dec (P a)) → (xs : List A) → Parted P xs
-  part P test [] =
-      record { passing = []; failing = []; all-pass = tt; all-fail = tt; passing-within = λ a m. m; failing-within = λ a m. m; passing-distinct = λ d. d; failing-distinct = λ d. d; lengths = omega arith }
+  unfolding chosen-none take-next skip-next
+  part P test [] = record { passing = chosen-none P []; failing = chosen-none (λ a. P a → ⊥) []; lengths = omega arith }
   part P test (x ∷ xs) = by-test (test x) (part P test xs)
     where
-      under : (ys : List A) → Within ys xs → Within (x ∷ ys) (x ∷ xs)
-      under ys h a = ⊎-elim inl (λ m. inr (h a m))
-
       by-test : Dec (P x) → Parted P xs → Parted P (x ∷ xs)
       by-test (yes h) r =
-          record {
-            passing = x ∷ r .passing;
-            failing = r .failing;
-            all-pass = (h, r .all-pass);
-            all-fail = r .all-fail;
-            passing-within = under (r .passing) (r .passing-within);
-            failing-within = λ a m. inr (r .failing-within a m);
-            passing-distinct = λ d. (λ m. d .0 (r .passing-within x m), r .passing-distinct (d .1));
-            failing-distinct = λ d. r .failing-distinct (d .1);
-            lengths = omega (arith, r .lengths);
-          }
-      by-test (no n) r =
-          record {
-            passing = r .passing;
-            failing = x ∷ r .failing;
-            all-pass = r .all-pass;
-            all-fail = (n, r .all-fail);
-            passing-within = λ a m. inr (r .passing-within a m);
-            failing-within = under (r .failing) (r .failing-within);
-            passing-distinct = λ d. r .passing-distinct (d .1);
-            failing-distinct = λ d. (λ m. d .0 (r .failing-within x m), r .failing-distinct (d .1));
-            lengths = omega (arith, r .lengths);
-          }
+          record { passing = take-next P x xs h (r .passing); failing = skip-next (λ a. P a → ⊥) x xs (r .failing); lengths = omega (arith, r .lengths) }
+      by-test (no h) r =
+          record { passing = skip-next P x xs (r .passing); failing = take-next (λ a. P a → ⊥) x xs h (r .failing); lengths = omega (arith, r .lengths) }
 
 -- an injective map of a finite set into itself is onto
 pub injective-onto : {A : Type 0} → Discrete A → (f : A → A) (xs : List A) → Distinct xs → ((a : A) → Member a xs → Member (f a) xs)

@@ -3,21 +3,22 @@
 --   f(a)             value R f a, for the list f of coefficients, constant first
 --   quotient R r g   q for f = c + X·g: the values at r of g, of g without its constant, …
 --   Zero R f         every coefficient of f is 0
+--   Root F f r       f(r) = 0
 use mathlib.Core.Path.{_≡_, refl, sym, ap, _∙_, _≡⟨_⟩_, _∎}
 use mathlib.Core.List.{List, [], _∷_}
 use mathlib.Core.Logic.{⊎-elim}
-use Prim.Native.Nat.{zero, suc, _+_, _≤_, _<_}
+use Prim.Native.Nat.{suc, _≤_, _<_}
 use native.Mathlib.Nat.{lt-of-not-le}
 use native.Mathlib.Omega.{arith}
 use lib.ListN.{length}
-use Rattle.algebra.specs.Lists.{Distinct, All}
+use Rattle.algebra.specs.Lists.{Member, Distinct, All}
 use Rattle.algebra.specs.Ring.{CommutativeRing, Field, value}
 use Rattle.algebra.proofs.Lists.{all-member, member-all, member-equal}
 use Rattle.algebra.proofs.FieldLaws.{mul-right-cases}
 use Rattle.algebra.proofs.RingLaws.{ring-laws, add-left-cancel, add-zero, mul-zero, add-assoc}
 
 module _ {A : Type 0} (R : CommutativeRing A) where
-  open CommutativeRing R using (zero as 𝟎, one as 𝟏, add as _⊕_, neg as ⊖_, mul as _⊗_)
+  open CommutativeRing R using (zero as 𝟎, add as _⊕_, mul as _⊗_)
 
   infixl 60 _⊕_
   infixl 70 _⊗_
@@ -62,7 +63,7 @@ module _ {A : Type 0} (R : CommutativeRing A) where
       rw (value-cons d h x, value-cons (value R (d ∷ h) r) (quotient r h) x)
       (factor-step x r d (value R h x) (value R h r) (value R (d ∷ h) r) (value R (quotient r h) x) (value-cons d h r) (factor r x h))
 
-  -- a polynomial is zero if its constant multiple of X is zero
+  -- c + X·f has a root and f = 0: then c = 0
   constant-zero : (c : A) (f : List A) (a : A) → Zero f → value R (c ∷ f) a ≡ 𝟎 → c ≡ 𝟎
   constant-zero c f a h e = simp (value-cons, value-zero f a h, mul-zero R, add-zero R) at e
 
@@ -81,10 +82,8 @@ module _ {A : Type 0} (R : CommutativeRing A) where
 
 module _ {A : Type 0} (F : Field A) where
   open Field F using (ring as R)
-  open CommutativeRing R using (zero as 𝟎, one as 𝟏, add as _⊕_, neg as ⊖_, mul as _⊗_)
+  open CommutativeRing R using (zero as 𝟎)
 
-  infixl 60 _⊕_
-  infixl 70 _⊗_
   abbrev pub Root : List A → A → Type 0
   Root f r = value R f r ≡ 𝟎
 
@@ -98,11 +97,10 @@ module _ {A : Type 0} (F : Field A) where
   zero-of-roots [] (c ∷ g) d roots long = absurd (omega arith)
   zero-of-roots (r ∷ rs) [] d roots long = tt
   zero-of-roots (r ∷ rs) (c ∷ g) d roots long =
-      let others : All (Root (quotient R r g)) rs =
-      member-all (Root (quotient R r g)) rs
-      (λ s m. root-of-quotient c g r s (roots .0) (all-member (Root (c ∷ g)) rs (roots .1) s m) (λ e. d .0 (member-equal rs e m))) in
-      let tail : Zero R g =
-      quotient-zero R r g (zero-of-roots rs (quotient R r g) (d .1) others (omega (arith, quotient-length R r g))) in
+      let q : List A = quotient R r g in
+      let each : (s : A) → Member s rs → Root (c ∷ g) s = all-member (Root (c ∷ g)) rs (roots .1) in
+      let other : (s : A) → Member s rs → Root q s = λ s m. root-of-quotient c g r s (roots .0) (each s m) (λ e. d .0 (member-equal rs e m)) in
+      let tail : Zero R g = quotient-zero R r g (zero-of-roots rs q (d .1) (member-all (Root q) rs other) (omega (arith, quotient-length R r g))) in
       (constant-zero R c g r tail (roots .0), tail)
 
   -- d + 1 coefficients, not all 0: at most d roots

@@ -23,12 +23,19 @@ pub record Units {A : Type 0} (F : Field A) (us : List A) : Type 0 where
 abbrev pub product : {A : Type 0} → CommutativeRing A → List A → A
 product R xs = foldr (R .mul) (R .one) xs
 
-pub product-map-mul : {A : Type 0} (R : CommutativeRing A) (u : A) (xs : List A) → product R (map (R .mul u) xs) ≡ R .mul (power R u (length xs)) (product R xs)
-product-map-mul R u [] = sym (mul-one R (power R u 0) ∙ power-zero R u)
-product-map-mul {A} R u (x ∷ xs) = ap (R .mul (R .mul u x)) (product-map-mul R u xs) ∙ regroup (power R u (length xs)) (product R xs) ∙ ap (λ t. R .mul t (product R (x ∷ xs))) (sym (power-suc R u (length xs)))
-  where
-    regroup : (w q : A) → R .mul (R .mul u x) (R .mul w q) ≡ R .mul (R .mul u w) (R .mul x q)
-    regroup w q = simp (mul-assoc R, mul-left-comm R)
+module _ {A : Type 0} (R : CommutativeRing A) where
+  open CommutativeRing R using (mul as _⊗_)
+
+  infixl 70 _⊗_
+  pub product-map-mul : (u : A) (xs : List A) → product R (map (_⊗_ u) xs) ≡ power R u (length xs) ⊗ product R xs
+  product-map-mul u [] = sym (mul-one R (power R u 0) ∙ power-zero R u)
+  product-map-mul u (x ∷ xs) =
+      ap (_⊗_ (u ⊗ x)) (product-map-mul u xs)
+      ∙ regroup (power R u (length xs)) (product R xs)
+      ∙ ap (λ t. t ⊗ product R (x ∷ xs)) (sym (power-suc R u (length xs)))
+    where
+      regroup : (w q : A) → u ⊗ x ⊗ (w ⊗ q) ≡ u ⊗ w ⊗ (x ⊗ q)
+      regroup w q = simp (mul-assoc R, mul-left-comm R)
 
 module _ {A : Type 0} (F : Field A) where
   open Field F using (ring as R)
