@@ -1,4 +1,4 @@
--- The laws of commutative rings, of primes and of polynomials.
+-- The laws of commutative rings and fields, of primes, of polynomials and of finite lists.
 pub mod RingLaws
 pub mod Modulo
 pub mod Normalise
