@@ -1,1 +1,6 @@
--- Laws.
+-- The theory of residues modulo a monic polynomial.
+pub mod Action
+pub mod Words
+pub mod Sums
+pub mod TimesX
+pub mod Ring
