@@ -4,3 +4,6 @@ pub mod Words
 pub mod Sums
 pub mod TimesX
 pub mod Ring
+pub mod Evaluation
+pub mod Reduction
+pub mod Substitution
