@@ -7,3 +7,4 @@ pub mod Ring
 pub mod Evaluation
 pub mod Reduction
 pub mod Substitution
+pub mod Remainder
