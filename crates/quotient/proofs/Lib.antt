@@ -8,3 +8,4 @@ pub mod Evaluation
 pub mod Reduction
 pub mod Substitution
 pub mod Remainder
+pub mod Listing

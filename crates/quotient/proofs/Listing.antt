@@ -1,0 +1,115 @@
+-- The list of all residues has each of them, none twice, p^n in all: induction on n, since the lists of n + 1 words are those of
+-- n words, each behind each of the words 0, …, p − 1.
+use mathlib.Core.Path.{_≡_, refl, sym, _∙_, ap, ap₂, subst}
+use mathlib.Core.List.{List, [], _∷_, map, head-eq-of-cons-eq, tail-eq-of-cons-eq}
+use mathlib.Core.Logic.{inl, inr, ⊎-elim}
+use Prim.Native.Nat.{ℕ, zero, suc, _+_, _*_, _^_}
+use native.Mathlib.Nat.{pow-zero, pow-succ'}
+use native.Mathlib.Omega.{arith}
+use lib.ListN.{length, length-append, length-map}
+use Rattle.algebra.specs.Lists.{Member, Distinct, range}
+use Rattle.algebra.proofs.Lists.{member-equal, member-append-left, member-append-right, member-append, member-map, map-member, distinct-map, distinct-append}
+use Rattle.algebra.proofs.Search.{range-length, range-bounds, range-member, range-distinct}
+use Rattle.quotient.specs.Residue.{Words, none, more, Residue, residues, prefixed}
+use Rattle.quotient.proofs.Words.{residue-path}
+
+prefixed-complete : (words : List ℕ) (us : List (List ℕ)) (a : ℕ) (u : List ℕ) → Member a words → Member u us → Member (a ∷ u) (prefixed words us)
+unfolding prefixed
+prefixed-complete (b ∷ words) us a u (inl e) m =
+    let behind = map (λ v. b ∷ v) us in
+    member-append-left behind (prefixed words us) (a ∷ u) (member-equal behind (ap (λ x. x ∷ u) (sym e)) (member-map (λ v. b ∷ v) us u m))
+prefixed-complete (b ∷ words) us a u (inr h) m =
+    member-append-right (map (λ v. b ∷ v) us) (prefixed words us) (a ∷ u) (prefixed-complete words us a u h m)
+
+prefixed-sound : (words : List ℕ) (us : List (List ℕ)) (v : List ℕ) → Member v (prefixed words us)
+    → (a : ℕ) × (u : List ℕ) × Member a words × Member u us × (v ≡ a ∷ u)
+unfolding prefixed
+prefixed-sound (b ∷ words) us v h =
+    ⊎-elim
+    (λ m. let (u, l, e) = map-member (λ w. b ∷ w) us v m in (b, u, inl refl, l, e))
+    (λ m. let (a, u, k, l, e) = prefixed-sound words us v m in (a, u, inr k, l, e))
+    (member-append (map (λ w. b ∷ w) us) (prefixed words us) v h)
+
+prefixed-distinct : (words : List ℕ) (us : List (List ℕ)) → Distinct words → Distinct us → Distinct (prefixed words us)
+unfolding prefixed
+prefixed-distinct [] us hw hu = tt
+prefixed-distinct (b ∷ words) us hw hu =
+    distinct-append (map (λ v. b ∷ v) us) (prefixed words us)
+    (distinct-map (λ v. b ∷ v) us (λ v w l m e. tail-eq-of-cons-eq e) hu)
+    (prefixed-distinct words us (hw .1) hu)
+    (λ v m n.
+    let (u, l, e) = map-member (λ w. b ∷ w) us v m in
+    let (a, w, k, o, f) = prefixed-sound words us v n in
+    hw .0 (member-equal words (head-eq-of-cons-eq (sym f ∙ e)) k))
+
+prefixed-length : (words : List ℕ) (us : List (List ℕ)) → length (prefixed words us) ≡ length words * length us
+unfolding prefixed
+prefixed-length [] us = omega arith
+prefixed-length (b ∷ words) us =
+    length-append (map (λ u. b ∷ u) us) (prefixed words us) ∙ ap₂ _+_ (length-map us (λ u. b ∷ u)) (prefixed-length words us) ∙ omega arith
+
+pub residues-complete : (p n : ℕ) (u : List ℕ) → Words p n u → Member u (residues p n)
+unfolding residues
+residues-complete p zero [] none = inl refl
+residues-complete p (suc n) (a ∷ u) (more h w) =
+    prefixed-complete (range 0 p) (residues p n) a u (range-member 0 p a (omega arith) (omega arith)) (residues-complete p n u w)
+
+pub residues-sound : (p n : ℕ) (u : List ℕ) → Member u (residues p n) → Words p n u
+unfolding residues
+residues-sound p zero u (inl e) = subst (Words p 0) (sym e) none
+residues-sound p (suc n) u h =
+    let (a, v, k, l, e) = prefixed-sound (range 0 p) (residues p n) u h in
+    let b = range-bounds 0 p a k in
+    subst (Words p (suc n)) (sym e) (more (omega arith) (residues-sound p n v l))
+
+pub residues-distinct : (p n : ℕ) → Distinct (residues p n)
+unfolding residues
+residues-distinct p zero = (λ m. m, tt)
+residues-distinct p (suc n) = prefixed-distinct (range 0 p) (residues p n) (range-distinct 0 p) (residues-distinct p n)
+
+pub residues-length : (p n : ℕ) → length (residues p n) ≡ p ^ n
+unfolding residues
+residues-length p zero = sym (pow-zero p)
+residues-length p (suc n) = prefixed-length (range 0 p) (residues p n) ∙ ap₂ _*_ (range-length 0 p) (residues-length p n) ∙ sym (pow-succ' p n)
+
+-- the same list with the proofs that its elements are residues
+module _ {p n : ℕ} where
+  attach : (us : List (List ℕ)) → ((u : List ℕ) → Member u us → Words p n u) → List (Residue p n)
+  attach [] h = []
+  attach (u ∷ us) h = (u, h u (inl refl)) ∷ attach us (λ v m. h v (inr m))
+
+  attach-length : (us : List (List ℕ)) (h : (u : List ℕ) → Member u us → Words p n u) → length (attach us h) ≡ length us
+  unfolding attach
+  attach-length [] h = refl
+  attach-length (u ∷ us) h = ap suc (attach-length us (λ v m. h v (inr m)))
+
+  attach-complete : (us : List (List ℕ)) (h : (u : List ℕ) → Member u us → Words p n u) (v : Residue p n) → Member (v .0) us → Member v (attach us h)
+  unfolding attach
+  attach-complete (u ∷ us) h v (inl e) = inl (residue-path e)
+  attach-complete (u ∷ us) h v (inr m) = inr (attach-complete us (λ w k. h w (inr k)) v m)
+
+  attach-sound : (us : List (List ℕ)) (h : (u : List ℕ) → Member u us → Words p n u) (v : Residue p n) → Member v (attach us h) → Member (v .0) us
+  unfolding attach
+  attach-sound (u ∷ us) h v (inl e) = inl (ap (λ w. w .0) e)
+  attach-sound (u ∷ us) h v (inr m) = inr (attach-sound us (λ w k. h w (inr k)) v m)
+
+  attach-distinct : (us : List (List ℕ)) (h : (u : List ℕ) → Member u us → Words p n u) → Distinct us → Distinct (attach us h)
+  unfolding attach
+  attach-distinct [] h d = tt
+  attach-distinct (u ∷ us) h d =
+      (λ m. d .0 (attach-sound us (λ w k. h w (inr k)) (u, h u (inl refl)) m), attach-distinct us (λ w k. h w (inr k)) (d .1))
+
+pub allResidues : (p n : ℕ) → List (Residue p n)
+allResidues p n = attach (residues p n) (residues-sound p n)
+
+pub allResidues-complete : (p n : ℕ) (u : Residue p n) → Member u (allResidues p n)
+unfolding allResidues
+allResidues-complete p n u = attach-complete (residues p n) (residues-sound p n) u (residues-complete p n (u .0) (u .1))
+
+pub allResidues-distinct : (p n : ℕ) → Distinct (allResidues p n)
+unfolding allResidues
+allResidues-distinct p n = attach-distinct (residues p n) (residues-sound p n) (residues-distinct p n)
+
+pub allResidues-length : (p n : ℕ) → length (allResidues p n) ≡ p ^ n
+unfolding allResidues
+allResidues-length p n = attach-length (residues p n) (residues-sound p n) ∙ residues-length p n
