@@ -9,3 +9,6 @@ pub mod Reduction
 pub mod Substitution
 pub mod Remainder
 pub mod Listing
+pub mod Divisor
+pub mod Decision
+pub mod Descent

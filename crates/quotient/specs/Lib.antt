@@ -2,4 +2,5 @@
 pub mod Residue
 pub mod Map
 pub mod Divisor
+pub mod DivisorTest
 pub mod Theorem
