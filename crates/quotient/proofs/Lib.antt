@@ -12,3 +12,5 @@ pub mod Listing
 pub mod Divisor
 pub mod Decision
 pub mod Descent
+pub mod Units
+pub mod Field
