@@ -14,3 +14,6 @@ pub mod Decision
 pub mod Descent
 pub mod Units
 pub mod Field
+pub mod Frobenius
+pub mod Theorem
+pub mod Refusal
