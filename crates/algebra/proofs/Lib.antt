@@ -14,3 +14,4 @@ pub mod Units
 pub mod PowerRoots
 pub mod Order
 pub mod OrderExists
+pub mod Equality
