@@ -3,6 +3,7 @@
 --   badPrime p           1: p is below 2, above 65,535 or not prime
 --   badDegree n          2: n is not 1 to 16
 --   badLength n xss      3: a list of coefficients, read or written, has the wrong length
+--   allBelow p xs        every word of xs is below p
 --   badWord p xss        4: a coefficient is p or more
 --   written k new old    what a lent list holds after a call with the number k: new where k is 0, else what it held
 use mathlib.Core.Bool.{Bool, true, false, _&&_, not}
@@ -26,8 +27,11 @@ badDegree n = not (leb 1 n && leb n 16)
 unfoldable pub badLength : ℕ → List (List ℕ) → Bool
 badLength n xss = not (all (λ xs. eqb (length xs) n) xss)
 
+unfoldable pub allBelow : ℕ → List ℕ → Bool
+allBelow p xs = all (λ a. ltb a p) xs
+
 unfoldable pub badWord : ℕ → List (List ℕ) → Bool
-badWord p xss = not (all (all (λ a. ltb a p)) xss)
+badWord p xss = not (all (allBelow p) xss)
 
 abbrev pub pick : Bool → List ℕ → List ℕ → List ℕ
 pick true new old = new

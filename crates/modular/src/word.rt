@@ -1,0 +1,76 @@
+// Arithmetic modulo p on words below p, for p up to 2^20. Only this repository calls these functions, so they state what they require.
+ghost use mathlib.Core.Path.{_≡_};
+ghost use Prim.Native.Nat.{_+_, _-_, _*_, _%_, _^_, _≤_, _<_};
+ghost use Rattle.algebra.specs.Prime.{Prime};
+ghost use mathlib.Core.Logic.{_⊎_};
+ghost use Rattle.modular.specs.Inverse.{inverse as inverseOf};
+
+// a + b modulo p.
+pub fn add(p: u64, a: u64, b: u64) -> u64
+    requires { ⌜ (p ≤ 1048576) × (a < p) × (b < p) ⌝ }
+    ensures { λ r. ⌜ (r ≡ (a + b) % p) × (r < p) ⌝ }
+{
+    let sum = a + b;
+    if sum < p { sum } else { sum - p }
+}
+
+// a − b modulo p.
+pub fn sub(p: u64, a: u64, b: u64) -> u64
+    requires { ⌜ (p ≤ 1048576) × (a < p) × (b < p) ⌝ }
+    ensures { λ r. ⌜ (r ≡ (a + (p - b)) % p) × (r < p) ⌝ }
+{
+    if b <= a { a - b } else { a + (p - b) }
+}
+
+// a·b modulo p.
+pub fn mul(p: u64, a: u64, b: u64) -> u64
+    requires { ⌜ (0 < p) × (a ≤ 1048576) × (b ≤ 1048576) ⌝ }
+    ensures { λ r. ⌜ (r ≡ (a * b) % p) × (r < p) ⌝ }
+{
+    a * b % p
+}
+
+// a^k modulo p, from (a²)^(k / 2).
+pub fn power(p: u64, a: u64, k: u64) -> u64
+    requires { ⌜ (0 < p) × (p ≤ 1048576) × (a ≤ 1048576) ⌝ }
+    ensures { λ r. ⌜ (r ≡ (a ^ k) % p) × (r < p) ⌝ }
+{
+    if k == 0 {
+        return 1 % p;
+    }
+    let even = power(p, mul(p, a, a), k / 2);
+    if k % 2 == 0 { even } else { mul(p, even, a) }
+}
+
+// Some t with a·t = 1 or a·t = −1 modulo p, by Euclid's algorithm on p and a. In each turn x·t + y·s = p, and a·t = y, a·s = −x modulo p
+// or both with the other sign. So a common divisor of x and y divides p, and y is never 0.
+fn cofactor(p: u64, a: u64) -> u64
+    requires { ⌜ Prime p ⌝ }
+    requires { ⌜ (p ≤ 1048576) × (0 < a) × (a < p) ⌝ }
+    ensures { λ t. ⌜ (t < p) × (((a * t) % p ≡ 1) ⊎ ((a * (p - t)) % p ≡ 1)) ⌝ }
+{
+    let mut x = p;
+    let mut s = 0;
+    let mut y = a;
+    let mut t = 1;
+    while y != 1 {
+        let q = x / y;
+        let rest = x - q * y;
+        let next = s + q * t;
+        x = y;
+        y = rest;
+        s = t;
+        t = next;
+    }
+    t
+}
+
+// The inverse of a modulo p. One product tells which sign the cofactor has.
+pub fn inverse(p: u64, a: u64) -> u64
+    requires { ⌜ Prime p ⌝ }
+    requires { ⌜ (p ≤ 1048576) × (0 < a) × (a < p) ⌝ }
+    ensures { λ r. ⌜ (r ≡ inverseOf p a) × (r < p) ⌝ }
+{
+    let t = cofactor(p, a);
+    if mul(p, a, t) == 1 { t } else { p - t }
+}
