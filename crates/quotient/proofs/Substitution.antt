@@ -115,6 +115,7 @@ unfolding residueRing zeroResidue constantResidue
 zero-substitute {s = s} big wt ws k =
     substitute-is big wt (s, ws) (constant k 0)
     ∙ ap (λ x. x .0) (ap (λ u. evaluate (residueRing big wt) u (s, ws)) (Words.constant-zero k) ∙ evaluate-zeros (residueRing big wt) k (s, ws))
+
 -- u(X) = u and T(X) = 0
 
 pub substitute-x : {p n : ℕ} {t : List ℕ} (big : 2 ≤ p) (wt : Words p n t) {u : List ℕ} → Words p n u → substitute p t (residueOfX p t) u ≡ u
