@@ -1,0 +1,93 @@
+-- `scale` gives a row operation. The loop's invariant: the columns from c to j − 1 of row c are written, and the rest is as it was.
+use borrow.Author.Needs.{needs}
+use Prim.Native.Nat.{_-_, _≤_}
+use Rattle.linear.proofs.Write.{Written, written-start}
+use Rattle.linear.proofs.RowStep.{scaled}
+use Rattle.linear.proofs.RowLoop.{scaled-turn, scaled-end, next-below, right-below, remainder-small}
+use Rattle.linear.proofs.row.scale.Statement.{statement}
+use Rattle.linear.proofs.row.scale.Tie as tie
+
+abbrev Inv-loop : tie.InvT-loop
+Inv-loop p u n c inverse m₀ b a j₀ m j = (j ≤ n) × Written (scaled p a m₀ c) c c j m₀ m
+
+abbrev μ-loop : tie.MeasureT-loop
+μ-loop p u n c inverse m₀ b a j₀ m j = n - j
+
+rem-a : tie.Need-rem-a Inv-loop μ-loop
+rem-a c = search needs
+
+loop-holds : tie.Need-loop-holds Inv-loop μ-loop
+loop-holds c = (search needs, search written-start)
+
+mul-k : tie.Need-mul-k Inv-loop μ-loop
+mul-k c = search needs
+
+add-k : tie.Need-add-k Inv-loop μ-loop
+add-k c = search needs
+
+mul-plus-product : tie.Need-mul-plus-product Inv-loop μ-loop
+mul-plus-product c = search needs
+
+element-copy-out-plus-product : tie.Need-element-copy-out-plus-product Inv-loop μ-loop
+element-copy-out-plus-product c = search needs
+
+plus-product-requires : tie.Need-plus-product-requires Inv-loop μ-loop
+plus-product-requires c κs = (search needs, (search needs, search remainder-small, search next-below))
+
+mul-m : tie.Need-mul-m Inv-loop μ-loop
+mul-m c = search needs
+
+element-write-m : tie.Need-element-write-m Inv-loop μ-loop
+element-write-m c = search needs
+
+add-j : tie.Need-add-j Inv-loop μ-loop
+add-j c = search needs
+
+loop-less : tie.Need-loop-less Inv-loop μ-loop
+loop-less c = search needs
+
+loop-again : tie.Need-loop-again Inv-loop μ-loop
+loop-again c = (search needs, search scaled-turn)
+
+mul-plus-product-2 : tie.Need-mul-plus-product-2 Inv-loop μ-loop
+mul-plus-product-2 c = search needs
+
+element-copy-out-plus-product-2 : tie.Need-element-copy-out-plus-product-2 Inv-loop μ-loop
+element-copy-out-plus-product-2 c = search needs
+
+plus-product-requires-2 : tie.Need-plus-product-requires-2 Inv-loop μ-loop
+plus-product-requires-2 c κs = (search needs, (search needs, search remainder-small, search right-below))
+
+mul-b : tie.Need-mul-b Inv-loop μ-loop
+mul-b c = search needs
+
+element-write-b : tie.Need-element-write-b Inv-loop μ-loop
+element-write-b c = search needs
+
+returns : tie.Need-returns Inv-loop μ-loop
+returns c = search scaled-end
+
+pub scale-spec : {M : Type 1} → statement M
+scale-spec =
+    tie.close
+    (tie.spec
+    Inv-loop
+    μ-loop
+    rem-a
+    loop-holds
+    mul-k
+    add-k
+    mul-plus-product
+    element-copy-out-plus-product
+    plus-product-requires
+    mul-m
+    element-write-m
+    add-j
+    loop-less
+    loop-again
+    mul-plus-product-2
+    element-copy-out-plus-product-2
+    plus-product-requires-2
+    mul-b
+    element-write-b
+    returns)
