@@ -1,0 +1,14 @@
+-- Laws on which the proofs of the functions rest.
+pub mod Painted
+pub mod Padded
+pub mod Horner
+pub mod Step
+pub mod Reduce
+pub mod Product
+pub mod Substitute
+pub mod Power
+pub mod Copy
+pub mod Refusals
+pub mod Accepted
+pub mod Answers
+pub mod Reciprocal

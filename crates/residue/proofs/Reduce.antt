@@ -1,0 +1,36 @@
+-- The words of an array reduced modulo p, one after another.
+--   remainder p w k   word k of w modulo p
+use mathlib.Core.Path.{_≡_, refl, ap, ap₂, _∙_}
+use mathlib.Core.List.{List, [], _∷_}
+use Prim.Native.Nat.{ℕ, zero, suc, _+_, _%_, _^_, _≤_, _<_}
+use native.Mathlib.Omega.{arith}
+use lib.ListN.{length, getD, take, set}
+use Rattle.residue.specs.Array.{padded}
+use Rattle.residue.specs.Delayed.{reduced, Delayed}
+use Rattle.residue.proofs.Painted.{painted, table, painted-next, painted-above}
+use Rattle.residue.proofs.Padded.{array-fits, painted-array}
+use Rattle.residue.proofs.Step.{delayed-word}
+
+unfoldable pub remainder : ℕ → List ℕ → ℕ → ℕ
+remainder p w k = getD w k 0 % p
+
+table-remainder : (p n : ℕ) (w : List ℕ) → n ≤ length w → table (remainder p w) n ≡ reduced p (take n w)
+unfolding table remainder reduced
+table-remainder p zero w h = refl
+table-remainder p (suc n) [] h = absurd (omega arith)
+table-remainder p (suc n) (a ∷ w) h = ap (λ l. a % p ∷ l) (table-remainder p n w (omega arith))
+
+pub reduce-turn : (p j a : ℕ) (w w′ : List ℕ) → w′ ≡ painted w (remainder p w) j → a ≡ getD w′ j 0 % p → set w′ j a ≡ painted w (remainder p w) (j + 1)
+unfolding remainder
+reduce-turn p j a w w′ e f =
+    ap₂ (λ l x. set l j x) e (f ∙ ap (λ l. getD l j 0 % p) e ∙ ap (λ x. x % p) (painted-above w (remainder p w) j j (omega arith))) ∙ painted-next w (remainder p w) j
+
+pub reduce-asks : (p n j : ℕ) (s w w′ : List ℕ) → Delayed p n n s w → n ≤ 16 → w′ ≡ painted w (remainder p w) j → j < n → getD w′ j 0 ≤ 2 ^ 46
+reduce-asks p n j s w w′ d h e l =
+    omega (arith, ap (λ l. getD l j 0) e ∙ painted-above w (remainder p w) j j (omega arith), delayed-word d h j l)
+
+pub reduce-done : (p n j : ℕ) (s w w′ : List ℕ) → n ≤ 16 → Delayed p n n s w → j ≤ n → n ≤ j → w′ ≡ painted w (remainder p w) j
+    → w′ ≡ padded (reduced p (take n w))
+reduce-done p n j s w w′ h d l l′ e =
+    let same : j ≡ n = omega arith in
+    e ∙ ap (painted w (remainder p w)) same ∙ painted-array n (remainder p w) w h (d .zeros) ∙ ap padded (table-remainder p n w (array-fits n w h (d .zeros)))

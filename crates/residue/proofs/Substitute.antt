@@ -1,0 +1,77 @@
+-- Substitution by Horner's rule on arrays: w ↦ S·w + c, where adding the constant c changes the lowest word only.
+use mathlib.Core.Path.{_≡_, refl, sym, ap, ap₂, subst, _∙_}
+use mathlib.Core.List.{List, _∷_}
+use Prim.Native.Nat.{ℕ, zero, suc, _+_, _-_, _%_, _^_, _≤_, _<_}
+use native.Mathlib.Nat as Nat
+use native.Mathlib.Omega.{arith}
+use lib.ListN.{length, getD, take, drop, set, replicate, drop-of-length-le}
+use lib.Seq.{drop-cons, getD-take}
+use mir.Syntax.{w64}
+use mir.Val.{Fits}
+use Rattle.quotient.specs.Residue.{Words, none, more, sum, constant, product, substitute}
+use Rattle.quotient.proofs.Words.{words-length, constant-zero, product-words, substitute-words}
+use Rattle.residue.specs.Array.{padded, Holds}
+use Rattle.residue.proofs.Padded.{padded-zeros, take-padded, holds-padded, holds-word}
+
+zeros-sum : {p n : ℕ} {u : List ℕ} → Words p n u → sum p (replicate n 0) u ≡ u
+unfolding sum
+zeros-sum none = refl
+zeros-sum (more h w) = ap₂ _∷_ (simp (Nat.zero-add, Nat.mod-eq-of-lt h)) (zeros-sum w)
+
+-- c + u, in place
+constant-sum : {p n : ℕ} {u : List ℕ} → 1 ≤ n → Words p n u → (c : ℕ) → set (padded u) 0 ((getD (padded u) 0 0 + c) % p) ≡ padded (sum p (constant n c) u)
+unfolding sum constant padded
+constant-sum h none c = absurd (omega arith)
+constant-sum {p} h (more {a = a} k w) c = rw (zeros-sum w, Nat.add-comm c a)
+
+words-drop : {p n : ℕ} {u : List ℕ} → Words p n u → (i : ℕ) → Words p (n - i) (drop i u)
+words-drop {n = n} w zero = rw (Nat.sub-zero n) w
+words-drop none (suc i) = rw (Nat.zero-sub (suc i)) none
+words-drop (more {n = m} h w) (suc i) = rw (Nat.suc-sub-suc m i) (words-drop w i)
+
+substitute-at : (p n i : ℕ) (t s u : List ℕ) → 0 < i → i ≤ n → length (take n u) ≡ n
+    → substitute p t s (drop (i - 1) (take n u)) ≡ sum p (constant (length t) (getD u (i - 1) 0)) (product p t s (substitute p t s (drop i (take n u))))
+unfolding substitute
+substitute-at p n i t s u h l m =
+    let e : suc (i - 1) ≡ i = omega arith in
+    ap (substitute p t s) (drop-cons (take n u) (i - 1) 0 (omega arith))
+    ∙ ap₂ (λ a k. sum p (constant (length t) a) (product p t s (substitute p t s (drop k (take n u))))) (getD-take n u (i - 1) 0 (omega arith)) e
+
+-- before the first turn: no word of u, and zeros
+pub substitute-starts : (p n : ℕ) (t s u : List ℕ) → n ≤ 16 → Holds p n t → Holds p n u
+    → replicate 16 0 ≡ padded (substitute p (take n t) (take n s) (drop n (take n u)))
+unfolding substitute
+substitute-starts p n t s u h x z =
+    padded-zeros n h
+    ∙ ap padded
+    (sym (constant-zero n) ∙ ap (λ k. constant k 0) (sym (words-length (x .words)))
+    ∙ ap (substitute p (take n t) (take n s)) (sym (drop-of-length-le (take n u) (Nat.le-of-eq (words-length (z .words))))))
+
+pub substitute-done : (p i : ℕ) (t s u w : List ℕ) → i ≤ 0 → w ≡ padded (substitute p t s (drop i u)) → w ≡ padded (substitute p t s u)
+substitute-done p i t s u w h e =
+    let z : i ≡ 0 = omega arith in
+    e ∙ ap (λ k. padded (substitute p t s (drop k u))) z
+
+module _ (p n i : ℕ) (t s u w : List ℕ) (e : w ≡ padded (substitute p (take n t) (take n s) (drop i (take n u))))
+    (big : 2 ≤ p) (x : Holds p n t) (y : Holds p n s) (z : Holds p n u) where
+  rest-words : Words p n (substitute p (take n t) (take n s) (drop i (take n u)))
+  rest-words = substitute-words big (x .words) (y .words) (words-drop (z .words) i)
+
+  pub substitute-holds : Holds p n w
+  substitute-holds = subst (Holds p n) (sym e) (holds-padded rest-words)
+
+  module _ (r : List ℕ) (f : r ≡ padded (product p (take n t) (take n s) (take n w))) (h : 1 ≤ n) (l : 0 < i) (m : i ≤ n) where
+    next-words : Words p n (product p (take n t) (take n s) (take n w))
+    next-words = product-words big (x .words) (take n s) (substitute-holds .words)
+
+    pub substitute-fits : p ≤ 2 ^ 20 → Fits w64 (getD r 0 0 + getD u (i - 1) 0)
+    substitute-fits b = omega (arith, holds-word (subst (Holds p n) (sym f) (holds-padded next-words)) 0 h, holds-word z (i - 1) (omega arith))
+
+    pub substitute-turn : set r 0 ((getD r 0 0 + getD u (i - 1) 0) % p) ≡ padded (substitute p (take n t) (take n s) (drop (i - 1) (take n u)))
+    substitute-turn =
+        let c : ℕ = getD u (i - 1) 0 in
+        ap (λ l. set l 0 ((getD l 0 0 + c) % p)) f
+        ∙ constant-sum h next-words c
+        ∙ ap padded
+        (ap₂ (λ k l. sum p (constant k c) (product p (take n t) (take n s) l)) (sym (words-length (x .words))) (ap (take n) e ∙ take-padded n _ (words-length rest-words))
+        ∙ sym (substitute-at p n i (take n t) (take n s) u l m (words-length (z .words))))

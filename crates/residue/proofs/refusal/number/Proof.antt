@@ -1,0 +1,34 @@
+-- `number` meets its contract.
+use borrow.Author.Needs.{needs}
+use Rattle.residue.proofs.Refusals.{number-is}
+use Rattle.residue.proofs.refusal.number.Statement.{statement}
+use Rattle.residue.proofs.refusal.number.Tie as tie
+
+is-prime-requires : tie.Need-is-prime-requires
+is-prime-requires c κs = search needs
+
+bad-degree-requires : tie.Need-bad-degree-requires
+bad-degree-requires c κs = search needs
+
+bad-length-requires : tie.Need-bad-length-requires
+bad-length-requires c κs = search needs
+
+bad-word-requires : tie.Need-bad-word-requires
+bad-word-requires c κs = search needs
+
+first-requires : tie.Need-first-requires
+first-requires c κs = search needs
+
+returns : tie.Need-returns
+returns c = search number-is
+
+pub number-spec : {M : Type 1} → statement M
+number-spec =
+    tie.close
+    (tie.spec
+    is-prime-requires
+    bad-degree-requires
+    bad-length-requires
+    bad-word-requires
+    first-requires
+    returns)

@@ -1,0 +1,61 @@
+-- `reduce` meets its contract. Before turn j the first j words are reduced.
+use borrow.Author.Needs.{needs}
+use mathlib.Core.Path.{_≡_}
+use Prim.Native.Nat.{_-_, _≤_}
+use Rattle.residue.proofs.Painted.{painted, painted-none}
+use Rattle.residue.proofs.Reduce.{remainder, reduce-asks, reduce-turn, reduce-done}
+use Rattle.residue.proofs.ring.reduce.Statement.{statement}
+use Rattle.residue.proofs.ring.reduce.Tie as tie
+
+abbrev Inv-loop : tie.InvT-loop
+Inv-loop p k reciprocal n w₀ j₀ w j = (j ≤ n) × (w ≡ painted w₀ (remainder p w₀) j)
+
+abbrev μ-loop : tie.MeasureT-loop
+μ-loop p k reciprocal n w₀ j₀ w j = n - j
+
+loop-holds : tie.Need-loop-holds Inv-loop μ-loop
+loop-holds c = (search needs, search painted-none)
+
+mul-remainder : tie.Need-mul-remainder Inv-loop μ-loop
+mul-remainder c = search needs
+
+element-copy-out-remainder : tie.Need-element-copy-out-remainder Inv-loop μ-loop
+element-copy-out-remainder c = search needs
+
+remainder-requires : tie.Need-remainder-requires Inv-loop μ-loop
+remainder-requires c κs = (search needs, search needs, search needs, search needs, search reduce-asks)
+
+mul-w : tie.Need-mul-w Inv-loop μ-loop
+mul-w c = search needs
+
+element-write-w : tie.Need-element-write-w Inv-loop μ-loop
+element-write-w c = search needs
+
+add-j : tie.Need-add-j Inv-loop μ-loop
+add-j c = search needs
+
+loop-less : tie.Need-loop-less Inv-loop μ-loop
+loop-less c = search needs
+
+loop-again : tie.Need-loop-again Inv-loop μ-loop
+loop-again c = (search needs, search reduce-turn)
+
+returns : tie.Need-returns Inv-loop μ-loop
+returns c = search reduce-done
+
+pub reduce-spec : {M : Type 1} → statement M
+reduce-spec =
+    tie.close
+    (tie.spec
+    Inv-loop
+    μ-loop
+    loop-holds
+    mul-remainder
+    element-copy-out-remainder
+    remainder-requires
+    mul-w
+    element-write-w
+    add-j
+    loop-less
+    loop-again
+    returns)

@@ -1,0 +1,37 @@
+// Arithmetic for sums of products whose reduction modulo p is put off. The division is by m = p·k, the largest multiple of p up to 2^20,
+// through its reciprocal 2^54 / m.
+ghost use mathlib.Core.Path.{_≡_};
+ghost use Prim.Native.Nat.{_+_, _*_, _/_, _%_, _^_, _≤_, _<_};
+
+// The product of two numbers of 32 bits. The casts let the compiler multiply several such pairs at once.
+pub fn times(a: u64, b: u64) -> u64
+    requires { ⌜ (a < 2 ^ 32) × (b < 2 ^ 32) ⌝ }
+    ensures { λ r. ⌜ r ≡ a * b ⌝ }
+{
+    (a as u32 as u64) * (b as u32 as u64)
+}
+
+// A number below 3·m that is x modulo m.
+fn rest(m: u64, reciprocal: u64, x: u64) -> u64
+    requires { ⌜ (2 ^ 19 ≤ m) × (m ≤ 2 ^ 20) × (reciprocal ≡ 2 ^ 54 / m) × (x ≤ 2 ^ 46) ⌝ }
+    ensures { λ r. ⌜ (r < 3 * m) × (r % m ≡ x % m) ⌝ }
+{
+    x - x / 524288 * reciprocal / 34359738368 * m
+}
+
+// A number q with q + x = 0 modulo p.
+pub fn opposite(p: u64, k: u64, reciprocal: u64, x: u64) -> u64
+    requires { ⌜ (2 ≤ p) × (p ≤ 2 ^ 20) × (k ≡ 2 ^ 20 / p) × (reciprocal ≡ 2 ^ 54 / (p * k)) × (x ≤ 2 ^ 46) ⌝ }
+    ensures { λ q. ⌜ (q ≤ 3 * 2 ^ 20) × ((q + x) % p ≡ 0) ⌝ }
+{
+    let m = p * k;
+    3 * m - rest(m, reciprocal, x)
+}
+
+// x modulo p.
+pub fn remainder(p: u64, k: u64, reciprocal: u64, x: u64) -> u64
+    requires { ⌜ (2 ≤ p) × (p ≤ 2 ^ 20) × (k ≡ 2 ^ 20 / p) × (reciprocal ≡ 2 ^ 54 / (p * k)) × (x ≤ 2 ^ 46) ⌝ }
+    ensures { λ r. ⌜ r ≡ x % p ⌝ }
+{
+    rest(p * k, reciprocal, x) % p
+}
