@@ -5,9 +5,12 @@ pub mod Horner
 pub mod Step
 pub mod Reduce
 pub mod Product
+pub mod Rows
 pub mod Substitute
 pub mod Power
 pub mod Copy
+pub mod Powers
+pub mod Combination
 pub mod Refusals
 pub mod Accepted
 pub mod Answers

@@ -2,3 +2,4 @@
 pub mod Array
 pub mod Calls
 pub mod Delayed
+pub mod Table

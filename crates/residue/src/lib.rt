@@ -2,6 +2,7 @@
 //   call      the public calls on lent lists, without any `requires`
 //   refusal   the refusals that they share
 //   ring      the same on arrays of 16 words, for the crates above
+//   table     the powers of a residue, worked out once for many substitutions
 //   delayed   arithmetic for sums of products
 //   array     lists of words into arrays, and back
 pub mod array;
@@ -9,3 +10,4 @@ pub mod call;
 mod delayed;
 pub mod refusal;
 pub mod ring;
+pub mod table;
