@@ -1,0 +1,8 @@
+-- The checker: two congruences give all four, what its answer 0 means, the pairs of degree 1, and the laws of the functions.
+pub mod TwoCongruences
+pub mod Accepts
+pub mod Refusals
+pub mod Theorem
+pub mod DegreeOne
+pub mod Comparison
+pub mod TwoTests

@@ -1,0 +1,88 @@
+-- The two tests of `accepts`, from one table of the powers of S modulo T2: what each array holds, and what the tests decide.
+use mathlib.Core.Path.{_≡_, sym, ap, ap₂, _∙_}
+use mathlib.Core.Bool.{Bool, true, false, not, _&&_}
+use mathlib.Core.List.{List}
+use Prim.Native.Nat.{ℕ, suc, _-_, _*_, _≤_}
+use native.Mathlib.Omega.{arith}
+use lib.ListN.{length, take, drop}
+use borrow.Author.Tests.{not-true, not-false}
+use Rattle.algebra.specs.Lists.{equal}
+use Rattle.quotient.specs.Residue.{Words, sum, constant, product, power, residueOfX, substitute, modulusAt}
+use Rattle.quotient.proofs.Words.{words-length, power-words, substitute-words, residueOfX-words}
+use Rattle.residue.specs.Array.{padded, Holds}
+use Rattle.residue.specs.Table.{Powers, combination}
+use Rattle.residue.proofs.Combination.{row-is-power, combine-is-substitute}
+use Rattle.residue.proofs.Padded.{array-length, holds-is, front-is}
+use Rattle.pair.specs.Pair.{accepts}
+use Rattle.pair.proofs.Accepts as Accepts
+
+module _ (p n : ℕ) (t s table : List ℕ) (h : Powers p n (take n t) (take n s) table) (x : Holds p n t) (y : Holds p n s) (big : 2 ≤ p) (some : 1 ≤ n)
+    (short : n ≤ 16) where
+  -- u(S) for any u
+  module _ (u image : List ℕ) (z : Holds p n u) (e : image ≡ padded (combination p n table u)) where
+    image-is : image ≡ padded (substitute p (take n t) (take n s) (take n u))
+    image-is = combine-is-substitute p n t s table big short x y h u image z e
+
+    image-words : Words p n (substitute p (take n t) (take n s) (take n u))
+    image-words = substitute-words big (x .words) (y .words) (z .words)
+
+    pub image-holds : Holds p n image
+    image-holds = holds-is image-is image-words
+
+    pub image-length : length image ≡ 16
+    image-length = array-length n image short (image-holds .zeros)
+
+    image-front : take n image ≡ substitute p (take n t) (take n s) (take n u)
+    image-front = front-is image-is image-words
+
+  -- S^(n−1) and S^n
+  module _ (last : List ℕ) (e : last ≡ padded (take n (drop (16 * (n - 1)) table))) where
+    last-is : last ≡ padded (power p (take n t) (take n s) (n - 1))
+    last-is = row-is-power p n t s table big short x y h (n - 1) last (omega arith) e
+
+    pub last-holds : Holds p n last
+    last-holds = holds-is last-is (power-words big (x .words) (y .words) (n - 1))
+
+    module _ (top : List ℕ) (f : top ≡ padded (product p (take n t) (take n s) (take n last))) where
+      top-is : top ≡ padded (power p (take n t) (take n s) n)
+      unfolding power
+      top-is =
+          let up : suc (n - 1) ≡ n = omega arith in
+          f ∙ ap padded (ap (product p (take n t) (take n s)) (front-is last-is (power-words big (x .words) (y .words) (n - 1))) ∙ ap (power p (take n t) (take n s)) up)
+
+      pub top-holds : Holds p n top
+      top-holds = holds-is top-is (power-words big (x .words) (y .words) n)
+
+      -- M(S) is S^n and what the lower words of M give
+      pub root-decides : (m rest : List ℕ) (b : Bool) → Holds p n m → rest ≡ padded (combination p n table m) → b ≡ equal (sum p (take n top) (take n rest)) (constant n 0)
+          → b ≡ equal (modulusAt p (take n t) (take n s) (take n m)) (constant n 0)
+      unfolding modulusAt
+      root-decides m rest b z g k =
+          k ∙ ap (λ l. equal l (constant n 0)) (ap₂ (sum p)
+          (front-is top-is (power-words big (x .words) (y .words) n) ∙ ap (power p (take n t) (take n s)) (sym (words-length (z .words))))
+          (image-front m rest z g))
+
+  -- the two tests
+  module _ (t1 r : List ℕ) (z : Holds p n t1) (w : Holds p n r) (b : Bool) (k : b ≡ equal (modulusAt p (take n t) (take n s) (take n t1)) (constant n 0)) where
+    tests : (b && equal (substitute p (take n t) (take n s) (take n r)) (residueOfX p (take n t))) ≡ accepts p (take n t1) (take n t) (take n s) (take n r)
+    tests =
+        ap (λ a. a && equal (substitute p (take n t) (take n s) (take n r)) (residueOfX p (take n t))) k
+        ∙ Accepts.accepts-two big n some (z .words) (x .words) (y .words) (w .words)
+
+    pub root-fails : not b ≡ true → false ≡ accepts p (take n t1) (take n t) (take n s) (take n r)
+    root-fails f = ap (λ a. a && equal (substitute p (take n t) (take n s) (take n r)) (residueOfX p (take n t))) (sym (not-true b f)) ∙ tests
+
+    pub inverse-decides : (image : List ℕ) (c : Bool) → not b ≡ false → image ≡ padded (combination p n table r) → c ≡ equal (take n image) (residueOfX p (take n t))
+        → c ≡ accepts p (take n t1) (take n t) (take n s) (take n r)
+    inverse-decides image c f e g =
+        g ∙ ap (λ l. equal l (residueOfX p (take n t))) (image-front r image w e)
+        ∙ ap (λ a. a && equal (substitute p (take n t) (take n s) (take n r)) (residueOfX p (take n t))) (sym (not-false b f)) ∙ tests
+
+-- X modulo T
+
+module _ (p n : ℕ) (t x : List ℕ) (big : 2 ≤ p) (short : n ≤ 16) (h : Holds p n t) (e : x ≡ padded (residueOfX p (take n t))) where
+  pub x-length : length x ≡ 16
+  x-length = array-length n x short (holds-is e (residueOfX-words big (h .words)) .zeros)
+
+  pub x-decides : (u : List ℕ) (c : Bool) → c ≡ equal (take n u) (take n x) → c ≡ equal (take n u) (residueOfX p (take n t))
+  x-decides u c f = f ∙ ap (equal (take n u)) (front-is e (residueOfX-words big (h .words)))

@@ -1,0 +1,29 @@
+-- `accepts` meets its contract: the two tests decide the four congruences.
+use borrow.Author.Needs.{needs}
+use Rattle.residue.proofs.Combination.{table-of-powers}
+use Rattle.pair.proofs.TwoTests.{image-length, root-fails, inverse-decides}
+use Rattle.pair.proofs.congruence.accepts.Statement.{statement}
+use Rattle.pair.proofs.congruence.accepts.Tie as tie
+
+powers-requires : tie.Need-powers-requires
+powers-requires c κs = search needs
+
+is-root-requires : tie.Need-is-root-requires
+is-root-requires c κs = search needs
+
+returns : tie.Need-returns
+returns c = search root-fails
+
+combine-requires : tie.Need-combine-requires
+combine-requires c κs = (search needs, (search table-of-powers, search needs))
+
+is-x-requires : tie.Need-is-x-requires
+is-x-requires c κs = (search needs, (search needs, search image-length))
+
+returns-2 : tie.Need-returns-2
+returns-2 c = search inverse-decides
+
+pub accepts-spec : {M : Type 1} → statement M
+accepts-spec =
+    tie.close
+    (tie.spec powers-requires is-root-requires returns combine-requires is-x-requires returns-2)

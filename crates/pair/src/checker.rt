@@ -1,0 +1,70 @@
+// The checker: the refusals of a pair, in the order of document 01, and the answer.
+use crate::congruence::accepts;
+use modular::list::below;
+use modular::prime::is_prime;
+use residue::array::load;
+use residue::refusal::bad_degree;
+use residue::refusal::bad_length;
+use residue::refusal::bad_word;
+ghost use mathlib.Core.Path.{_≡_};
+ghost use mathlib.Core.List.{[], _∷_};
+ghost use Rattle.modular.specs.Refusal.{refuse, badPrime, badDegree, badLength, badWord};
+ghost use Rattle.pair.specs.Pair.{accepts as acceptsPair, checkNumber};
+ghost use Rattle.pair.specs.Theorem.{Given};
+
+// Whether a word is p or more.
+fn bad_words(p: u32, t1: &[u16], t2: &[u16], s: &[u16], r: &[u16]) -> bool
+    ensures { λ b. ⌜ b ≡ badWord p (now (t1 .entry) ∷ now (t2 .entry) ∷ now (s .entry) ∷ now (r .entry) ∷ []) ⌝ }
+{
+    if bad_word(p, t1, t2, s) {
+        return true;
+    }
+    !below(p, r)
+}
+
+// The number of the first refusal but 8 that applies, 0 where none does.
+fn refusal(p: u32, n: u32, t1: &[u16], t2: &[u16], s: &[u16], r: &[u16]) -> u32
+    ensures { λ number. ⌜ number ≡ refuse 1 (badPrime p) (refuse 2 (badDegree n)
+        (refuse 3 (badLength n (now (t1 .entry) ∷ now (t2 .entry) ∷ now (s .entry) ∷ now (r .entry) ∷ []))
+        (refuse 4 (badWord p (now (t1 .entry) ∷ now (t2 .entry) ∷ now (s .entry) ∷ now (r .entry) ∷ [])) 0))) ⌝ }
+{
+    if !is_prime(p) {
+        return 1;
+    }
+    if bad_degree(n) {
+        return 2;
+    }
+    if bad_length(n, t2, s, r, t1) {
+        return 3;
+    }
+    if bad_words(p, t1, t2, s, r) {
+        return 4;
+    }
+    0
+}
+
+// Whether the four congruences hold, for lists to which no other refusal applies.
+fn accepted(p: u32, n: u32, t1: &[u16], t2: &[u16], s: &[u16], r: &[u16]) -> bool
+    requires { ⌜ Given p n (now t1) (now t2) (now s) (now r) ⌝ }
+    ensures { λ b. ⌜ b ≡ acceptsPair p (now (t1 .entry)) (now (t2 .entry)) (now (s .entry)) (now (r .entry)) ⌝ }
+{
+    accepts(
+        p as u64,
+        n as usize,
+        &load(t1),
+        &load(t2),
+        &load(s),
+        &load(r),
+    )
+}
+
+// 0 where S and R are inverse isomorphisms of the two models, else the number of the first refusal that applies.
+pub fn check(p: u32, n: u32, t1: &[u16], t2: &[u16], s: &[u16], r: &[u16]) -> u32
+    ensures { λ number. ⌜ number ≡ checkNumber p n (now (t1 .entry)) (now (t2 .entry)) (now (s .entry)) (now (r .entry)) ⌝ }
+{
+    let number = refusal(p, n, t1, t2, s, r);
+    if number != 0 {
+        return number;
+    }
+    if accepted(p, n, t1, t2, s, r) { 0 } else { 8 }
+}

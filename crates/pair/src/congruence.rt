@@ -1,0 +1,95 @@
+// The congruences of a pair. Two of them, T1(S) = 0 and R(S) = X modulo T2, imply the other two, and one table of the powers of S serves both.
+use modular::word::add;
+use residue::ring::product;
+use residue::ring::residue_of_x;
+use residue::table::combine;
+use residue::table::powers;
+use residue::table::row;
+ghost use mathlib.Core.Path.{_≡_};
+ghost use Prim.Native.Nat.{_^_, _≤_};
+ghost use lib.ListN.{length, take};
+ghost use Rattle.algebra.specs.Lists.{equal};
+ghost use Rattle.quotient.specs.Residue.{constant, sum, residueOfX, modulusAt};
+ghost use Rattle.residue.specs.Array.{Holds};
+ghost use Rattle.residue.specs.Table.{Powers};
+ghost use Rattle.pair.specs.Pair.{accepts as acceptsPair};
+
+// Whether u = v.
+fn same(n: usize, u: &[u64; 16], v: &[u64; 16]) -> bool
+    requires { ⌜ (n ≤ 16) × (length (now u) ≡ 16) × (length (now v) ≡ 16) ⌝ }
+    ensures { λ r. ⌜ r ≡ equal (take n (now (u .entry))) (take n (now (v .entry))) ⌝ }
+{
+    let mut i = 0;
+    while i < n {
+        if u[i] != v[i] {
+            return false;
+        }
+        i += 1;
+    }
+    true
+}
+
+// Whether u + v = 0.
+fn opposite(p: u64, n: usize, u: &[u64; 16], v: &[u64; 16]) -> bool
+    requires { ⌜ (p ≤ 2 ^ 20) × (n ≤ 16) × Holds p n (now u) × Holds p n (now v) ⌝ }
+    ensures { λ r. ⌜ r ≡ equal (sum p (take n (now (u .entry))) (take n (now (v .entry)))) (constant n 0) ⌝ }
+{
+    let mut i = 0;
+    while i < n {
+        if add(p, u[i], v[i]) != 0 {
+            return false;
+        }
+        i += 1;
+    }
+    true
+}
+
+// Whether M(S) = 0 modulo T, where M is the monic polynomial with the lower words m: S^n is opposite to what these give.
+fn is_root(
+    p: u64,
+    n: usize,
+    t: &[u64; 16],
+    s: &[u64; 16],
+    table: &[u64; 256],
+    m: &[u64; 16],
+) -> bool
+    requires { ⌜ (2 ≤ p) × (p ≤ 2 ^ 20) × (1 ≤ n) × (n ≤ 16) ⌝ }
+    requires { ⌜ Holds p n (now t) × Holds p n (now s) × Holds p n (now m) × Powers p n (take n (now t)) (take n (now s)) (now table) ⌝ }
+    ensures { λ r. ⌜ r ≡ equal (modulusAt p (take n (now (t .entry))) (take n (now (s .entry))) (take n (now (m .entry)))) (constant n 0) ⌝ }
+{
+    let last = row(n, table, n - 1);
+    let top = product(p, n, t, s, &last);
+    let rest = combine(p, n, table, m);
+    opposite(p, n, &top, &rest)
+}
+
+// Whether u = X modulo T.
+fn is_x(p: u64, n: usize, t: &[u64; 16], u: &[u64; 16]) -> bool
+    requires { ⌜ (2 ≤ p) × (p ≤ 2 ^ 20) × (1 ≤ n) × (n ≤ 16) ⌝ }
+    requires { ⌜ Holds p n (now t) × (length (now u) ≡ 16) ⌝ }
+    ensures { λ r. ⌜ r ≡ equal (take n (now (u .entry))) (residueOfX p (take n (now (t .entry)))) ⌝ }
+{
+    let x = residue_of_x(p, n, t);
+    same(n, u, &x)
+}
+
+// Whether the four congruences hold.
+pub fn accepts(
+    p: u64,
+    n: usize,
+    t1: &[u64; 16],
+    t2: &[u64; 16],
+    s: &[u64; 16],
+    r: &[u64; 16],
+) -> bool
+    requires { ⌜ (2 ≤ p) × (p ≤ 2 ^ 20) × (1 ≤ n) × (n ≤ 16) ⌝ }
+    requires { ⌜ Holds p n (now t1) × Holds p n (now t2) × Holds p n (now s) × Holds p n (now r) ⌝ }
+    ensures { λ b. ⌜ b ≡ acceptsPair p (take n (now (t1 .entry))) (take n (now (t2 .entry))) (take n (now (s .entry))) (take n (now (r .entry))) ⌝ }
+{
+    let table = powers(p, n, t2, s);
+    if !is_root(p, n, t2, s, &table, t1) {
+        return false;
+    }
+    let image = combine(p, n, &table, r);
+    is_x(p, n, t2, &image)
+}
