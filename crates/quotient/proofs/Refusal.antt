@@ -1,14 +1,13 @@
 -- What it means that a refusal does not apply (document 01, "Caused by what was sent"): a call gives 0 where none of its conditions applies,
 -- and then p is a prime up to 65,535, n is 1 to 16 and every list is n words below p.
---   refuse-none       the number is 0: the first condition does not apply, and what comes after it is 0
---   prime-given       1 does not apply to a prime up to 65,535, and to nothing else
---   degree-given      2 does not apply to 1 to 16, and to nothing else
---   words-given       3 and 4 do not apply to lists of n words below p, and to nothing else
-use mathlib.Core.Path.{_≡_, refl, sym, ap, ap₂, subst, _∙_}
+--   refuse-none                    the number is 0: the first condition does not apply, and what comes after it is 0
+--   prime-given, given-prime       1 does not apply exactly to the primes up to 65,535
+--   degree-given, given-degree     2 does not apply exactly to 1 to 16
+--   words-given, given-lengths, given-words   3 and 4 do not apply exactly to lists of n words below p
+use mathlib.Core.Path.{_≡_, refl, ap, ap₂, subst}
 use mathlib.Core.Bool.{Bool, true, false, not, _&&_, and-eq-true-iff}
 use mathlib.Core.List.{List, [], _∷_}
-use mathlib.Core.Logic.{_↔_}
-use Prim.Native.Nat.{ℕ, zero, suc, _≤_, _<_}
+use Prim.Native.Nat.{ℕ, suc, _≤_}
 use native.Mathlib.Omega.{arith}
 use lib.Dec.{leb, ltb, eqb}
 use lib.ListN.{length}
