@@ -1,0 +1,93 @@
+-- Laws of bits: the number of the w bits of v is v % 2^w, and a list of bits is determined by its length and its number, so each of
+-- `bits` and `number` undoes the other.
+--   Binary bs   every element is 0 or 1
+use mathlib.Core.Path.{_≡_, refl, sym, ap, ap₂, _∙_}
+use mathlib.Core.List.{List, [], _∷_, _++_}
+use Prim.Native.Nat.{ℕ, zero, suc, _+_, _*_, _/_, _%_, _^_, _≤_, _<_}
+use native.Mathlib.Nat.{mod-lt, mod-eq-of-lt, mod-one, suc-inj, pow-suc, mul-le-mul-right, lt-of-lt-of-le, le-trans}
+use native.Mathlib.Omega.{arith}
+use lib.Dec.{lit<}
+use lib.ListN.{length, getD}
+use lib.Pow.{mod-pow-add}
+use Rattle.algebra.specs.Lists.{All}
+use Rattle.card.specs.Bits.{bits, number, numberFrom}
+
+abbrev pub Binary : List ℕ → Type 0
+Binary bs = All (λ b. b < 2) bs
+
+pub bits-length : (w v : ℕ) → length (bits w v) ≡ w
+unfolding bits
+bits-length zero v = refl
+bits-length (suc w) v = ap suc (bits-length w v)
+
+pub bits-binary : (w v : ℕ) → Binary (bits w v)
+unfolding bits
+bits-binary zero v = tt
+bits-binary (suc w) v = (mod-lt (v / 2 ^ w) (lit< tt), bits-binary w v)
+
+-- bit j of the w bits of v, with k bits after it
+pub bit-of-bits : (w v j k : ℕ) → j + suc k ≡ w → getD (bits w v) j 0 ≡ v / 2 ^ k % 2
+unfolding bits
+bit-of-bits zero v j k e = absurd (omega arith)
+bit-of-bits (suc w) v zero k e = let h : w ≡ k = omega arith in rw h
+bit-of-bits (suc w) v (suc j) k e = bit-of-bits w v j k (omega arith)
+
+-- the leading one of w + 1 bits, and the others
+mod-leading : (v w : ℕ) → v % 2 ^ suc w ≡ v / 2 ^ w % 2 * 2 ^ w + v % 2 ^ w
+mod-leading v w = let e : suc w ≡ 1 + w = omega arith in ap (λ k. v % 2 ^ k) e ∙ mod-pow-add v 1 w
+
+numberFrom-bits : (w h v : ℕ) → numberFrom h (bits w v) ≡ h * 2 ^ w + v % 2 ^ w
+unfolding bits numberFrom
+numberFrom-bits zero h v = omega (arith, mod-one v)
+numberFrom-bits (suc w) h v = numberFrom-bits w (h * 2 + v / 2 ^ w % 2) v ∙ regroup h (v / 2 ^ w % 2) (2 ^ w) (v % 2 ^ w) ∙ sym (ap₂ (λ a b. h * a + b) (pow-suc 2 w) (mod-leading v w))
+  where
+    regroup : (h b q r : ℕ) → (h * 2 + b) * q + r ≡ h * (q * 2) + (b * q + r)
+    regroup h b q r = omega arith
+
+pub number-bits : (w v : ℕ) → v < 2 ^ w → number (bits w v) ≡ v
+number-bits w v h = numberFrom-bits w 0 v ∙ omega (arith, mod-eq-of-lt h)
+
+-- the first number and every bit can be told from the last number: bit by bit from the end, the remainder by 2
+numberFrom-injective : (xs ys : List ℕ) (g h : ℕ) → Binary xs → Binary ys → length xs ≡ length ys → numberFrom g xs ≡ numberFrom h ys
+    → (g ≡ h) × (xs ≡ ys)
+unfolding numberFrom
+numberFrom-injective [] [] g h bx bys l e = (e, refl)
+numberFrom-injective [] (y ∷ ys) g h bx bys l e = absurd (omega arith)
+numberFrom-injective (x ∷ xs) [] g h bx bys l e = absurd (omega arith)
+numberFrom-injective (x ∷ xs) (y ∷ ys) g h bx bys l e =
+    let r : (g * 2 + x ≡ h * 2 + y) × (xs ≡ ys) = numberFrom-injective xs ys (g * 2 + x) (h * 2 + y) (bx .1) (bys .1) (suc-inj l) e in
+    let d : x ≡ y = omega (arith, r .0, bx .0, bys .0) in
+    (omega (arith, r .0, d), ap₂ (λ (a : ℕ) (bs : List ℕ). a ∷ bs) d (r .1))
+
+-- w bits are a number below 2^w
+numberFrom-below : (bs : List ℕ) (h : ℕ) → Binary bs → numberFrom h bs < suc h * 2 ^ length bs
+unfolding numberFrom
+numberFrom-below [] h b = omega arith
+numberFrom-below (d ∷ ds) h b = lt-of-lt-of-le (numberFrom-below ds (h * 2 + d) (b .1)) (rw pow-suc (double h d (2 ^ length ds) (b .0)))
+  where
+    double : (h d q : ℕ) → d < 2 → suc (h * 2 + d) * q ≤ suc h * (q * 2)
+    double h d q l =
+        let m : suc (h * 2 + d) ≤ suc h * 2 = omega arith in
+        le-trans (mul-le-mul-right q m) (omega arith)
+
+pub number-below : (w : ℕ) (bs : List ℕ) → Binary bs → length bs ≡ w → number bs < 2 ^ w
+number-below w bs b l = rw (← l) (omega (arith, numberFrom-below bs 0 b))
+
+-- so the bits of a number are those that it was made of
+pub bits-number : (w : ℕ) (bs : List ℕ) → Binary bs → length bs ≡ w → bits w (number bs) ≡ bs
+bits-number w bs b l =
+    numberFrom-injective
+    (bits w (number bs))
+    bs
+    0
+    0
+    (bits-binary w (number bs))
+    b
+    (bits-length w (number bs) ∙ sym l)
+    (number-bits w (number bs) (number-below w bs b l))
+    .1
+
+pub numberFrom-append : (h : ℕ) (xs ys : List ℕ) → numberFrom h (xs ++ ys) ≡ numberFrom (numberFrom h xs) ys
+unfolding numberFrom
+numberFrom-append h [] ys = refl
+numberFrom-append h (x ∷ xs) ys = numberFrom-append (h * 2 + x) xs ys

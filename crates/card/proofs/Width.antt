@@ -1,0 +1,60 @@
+-- The width of a card's words: the least w with p − 1 < 2^w. Up to 65,535 it is at most 16, and every number below p has w bits.
+use mathlib.Core.Path.{_≡_, ap}
+use mathlib.Core.Bool.{Bool}
+use mathlib.Core.List.{List, [], _∷_}
+use Prim.Native.Nat.{ℕ, zero, suc, _+_, _-_, _*_, _^_, _≤_, _<_}
+use mathlib.Core.Logic.{_⊎_, inl, inr}
+use native.Mathlib.Nat.{le-antisymm, eq-or-lt-of-le, pow-suc}
+use native.Mathlib.Numerals.{add-one}
+use native.Mathlib.Omega.{arith}
+use lib.Dec.{ltb, lit≤}
+use lib.Pow.{pow-pos}
+use borrow.Author.Tests.{ltb-true, lt-ltb}
+use Rattle.algebra.specs.Lists.{All, range}
+use Rattle.algebra.proofs.Search.{range-bounds, range-member, first-found, first-smallest, Found}
+use Rattle.card.specs.Card.{width}
+
+abbrev enough : ℕ → ℕ → Bool
+enough p w = ltb (p - 1) (2 ^ w)
+
+width-found : (p : ℕ) → p ≤ 65535 → Found (enough p) (range 0 17) (width p)
+unfolding width
+width-found p h = first-found (enough p) 0 (range 0 17) 16 (range-member 0 17 16 (lit≤ tt) (lit≤ tt)) (lt-ltb (p - 1) (2 ^ 16) (omega arith))
+
+pub width-enough : (p : ℕ) → p ≤ 65535 → p - 1 < 2 ^ width p
+width-enough p h = ltb-true (p - 1) (2 ^ width p) (width-found p h .1)
+
+pub width-most : (p : ℕ) → p ≤ 65535 → width p ≤ 16
+width-most p h = omega (arith, range-bounds 0 17 (width p) (width-found p h .0))
+
+pub width-least : (p w : ℕ) → w ≤ 16 → p - 1 < 2 ^ w → width p ≤ w
+unfolding width
+width-least p w l h = first-smallest (enough p) 0 0 17 w (omega arith) (omega arith) (lt-ltb (p - 1) (2 ^ w) h)
+
+pub width-positive : (p : ℕ) → 2 ≤ p → p ≤ 65535 → 1 ≤ width p
+width-positive p l h = by-width (width p) (width-enough p h)
+  where
+    by-width : (w : ℕ) → p - 1 < 2 ^ w → 1 ≤ w
+    by-width zero k = absurd (omega arith)
+    by-width (suc w) k = omega arith
+
+below-fits : (p a : ℕ) → p ≤ 65535 → a < p → a < 2 ^ width p
+below-fits p a h l = omega (arith, width-enough p h)
+
+pub all-below-fit : (p : ℕ) (words : List ℕ) → p ≤ 65535 → All (λ a. a < p) words → All (λ a. a < 2 ^ width p) words
+all-below-fit p [] h l = tt
+all-below-fit p (a ∷ words) h l = (below-fits p a h (l .0), all-below-fit p words h (l .1))
+
+-- doubling a power of two until it is p or more
+pub width-next : (p w q : ℕ) → p ≤ 65535 → q ≡ 2 ^ w → w ≤ width p → q < p → w + 1 ≤ width p
+width-next p w q h e l k = by-order (eq-or-lt-of-le l)
+  where
+    by-order : (w ≡ width p) ⊎ (w < width p) → w + 1 ≤ width p
+    by-order (inl f) = absurd (omega (arith, width-enough p h, ap (λ v. 2 ^ v) f))
+    by-order (inr f) = omega arith
+
+pub width-reached : (p w q : ℕ) → q ≡ 2 ^ w → w ≤ width p → width p ≤ 16 → p ≤ q → w ≡ width p
+width-reached p w q e l m k = le-antisymm l (width-least p w (omega arith) (omega (arith, pow-pos w)))
+
+pub power-doubled : (w q : ℕ) → q ≡ 2 ^ w → q * 2 ≡ 2 ^ (w + 1)
+power-doubled w q e = rw (add-one, pow-suc) (ap (λ k. k * 2) e)

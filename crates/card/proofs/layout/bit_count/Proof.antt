@@ -1,0 +1,17 @@
+-- `layout::bit_count`: 64 words of 16 bits have 1,024 bits.
+use native.Mathlib.Omega.{arith}
+use Rattle.card.proofs.WordCount.{bits-most}
+use Rattle.card.proofs.layout.bit_count.Statement.{statement}
+use Rattle.card.proofs.layout.bit_count.Tie as tie
+
+mul-result : tie.Need-mul-result
+mul-result c = omega (arith, bits-most _ _ (c .pre .0) (c .pre .1))
+
+add-result : tie.Need-add-result
+add-result c = omega (arith, bits-most _ _ (c .pre .0) (c .pre .1))
+
+returns : tie.Need-returns
+returns c = omega (arith, bits-most _ _ (c .pre .0) (c .pre .1))
+
+pub bit-count-spec : {M : Type 1} → statement M
+bit-count-spec = tie.close (tie.spec mul-result add-result returns)

@@ -1,0 +1,61 @@
+-- `reader::copy_words` writes the words, and zeros after them, over the list from the front.
+use mathlib.Core.Path.{_≡_, refl}
+use mathlib.Core.List.{_++_}
+use Prim.Native.Nat.{_-_, _≤_}
+use native.Mathlib.Omega.{arith}
+use lib.ListN.{length, take, drop, length-set}
+use borrow.Author.Needs.{needs}
+use Rattle.card.proofs.Lists.{overwrite-next, overwrite-end}
+use Rattle.card.proofs.Scans.{entries, entries-length}
+use Rattle.card.proofs.reader.copy_words.Statement.{statement}
+use Rattle.card.proofs.reader.copy_words.Tie as tie
+
+abbrev Inv-loop : tie.InvT-loop
+Inv-loop card w count words₀ k₀ words k =
+    (length words ≡ length words₀) × (length words₀ ≡ 64) × (k ≤ length words₀) × (length (entries card w count) ≡ length words₀) × (words ≡ take k (entries card w count) ++ drop k words₀)
+
+abbrev μ-loop : tie.MeasureT-loop
+μ-loop card w count words₀ k₀ words k = length words₀ - k
+
+loop-holds : tie.Need-loop-holds Inv-loop μ-loop
+loop-holds c = (refl, search needs, search needs, search entries-length, refl)
+
+entry-requires : tie.Need-entry-requires Inv-loop μ-loop
+entry-requires c κs = search needs
+
+mul-words : tie.Need-mul-words Inv-loop μ-loop
+mul-words c = search needs
+
+slice-write-words : tie.Need-slice-write-words Inv-loop μ-loop
+slice-write-words c = search needs
+
+add-k : tie.Need-add-k Inv-loop μ-loop
+add-k c = search needs
+
+loop-less : tie.Need-loop-less Inv-loop μ-loop
+loop-less c = search needs
+
+loop-again : tie.Need-loop-again Inv-loop μ-loop
+loop-again c = (simp length-set (omega arith), search needs, search needs, search needs, search overwrite-next)
+
+same-length : tie.Need-same-length Inv-loop μ-loop
+same-length c = search needs
+
+returns : tie.Need-returns Inv-loop μ-loop
+returns c = search overwrite-end
+
+pub copy-words-spec : {M : Type 1} → statement M
+copy-words-spec =
+    tie.close
+    (tie.spec
+    Inv-loop
+    μ-loop
+    loop-holds
+    entry-requires
+    mul-words
+    slice-write-words
+    add-k
+    loop-less
+    loop-again
+    same-length
+    returns)

@@ -1,0 +1,20 @@
+-- `reader::entry`: the list that the reader writes, entry by entry.
+use borrow.Author.Needs.{needs}
+use Rattle.card.proofs.Scans.{place-fits, entry-word, entry-zero}
+use Rattle.card.proofs.reader.entry.Statement.{statement}
+use Rattle.card.proofs.reader.entry.Tie as tie
+
+word-requires : tie.Need-word-requires
+word-requires c κs = (search needs, search needs, search place-fits)
+
+cast-result : tie.Need-cast-result
+cast-result c = search needs
+
+returns : tie.Need-returns
+returns c = search entry-word
+
+returns-2 : tie.Need-returns-2
+returns-2 c = search entry-zero
+
+pub entry-spec : {M : Type 1} → statement M
+entry-spec = tie.close (tie.spec word-requires cast-result returns returns-2)

@@ -1,0 +1,34 @@
+-- What is proved of cards. `out` is any list that has the length which the call asks for.
+--   WrittenReadsBack   "A written card reads back as what was given"
+--   ReadIsWritten      "every card that the reader takes is the one the writer makes of its result"; so no two cards mean the same
+--   LongestCard        "The longest card has 131 bytes"
+use mathlib.Core.Path.{_≡_}
+use mathlib.Core.List.{List, _++_}
+use Prim.Native.Nat.{ℕ, _-_, _≤_, _<_}
+use lib.ListN.{length, replicate}
+use Rattle.algebra.specs.Lists.{All}
+use Rattle.card.specs.Card.{card, cardLength, cardPrime, cardDegree, cardKind, cardWords, readNumber, readPrime, readDegree, readKind, readOutput, writeNumber}
+
+pub record Answer (p n kind : ℕ) (words ys out : List ℕ) : Type 0 where
+  pub accepted : readNumber ys out ≡ 0
+  pub prime : readPrime ys out ≡ p
+  pub degree : readDegree ys out ≡ n
+  pub kind-is : readKind ys out ≡ kind
+  pub words-are : readOutput ys out ≡ words ++ replicate (64 - length words) 0
+
+abbrev pub WrittenReadsBack : Type 0
+WrittenReadsBack =
+    (p n kind : ℕ) (words lent out : List ℕ) → writeNumber p n kind words lent ≡ 0 → length out ≡ 64
+    → Answer p n kind words (card p n kind words) out
+
+abbrev pub ReadIsWritten : Type 0
+ReadIsWritten =
+    (ys out : List ℕ) → All (λ y. y < 256) ys → readNumber ys out ≡ 0
+    → (writeNumber (cardPrime ys) (cardDegree ys) (cardKind ys) (cardWords ys) ys ≡ 0)
+    × (card (cardPrime ys) (cardDegree ys) (cardKind ys) (cardWords ys) ≡ ys)
+
+abbrev pub LongestCard : Type 0
+LongestCard =
+    ((p n kind : ℕ) (words out : List ℕ) → writeNumber p n kind words out ≡ 0
+    → (length (card p n kind words) ≡ cardLength p n kind) × (cardLength p n kind ≤ 131))
+    × (cardLength 65521 16 2 ≡ 131)

@@ -1,0 +1,110 @@
+// The writer of cards. Every byte is a function of its place, and nothing is written before the last refusal is decided.
+ghost use mathlib.Core.Path.{_≡_};
+ghost use Prim.Native.Nat.{_*_, _≤_, _<_};
+ghost use lib.ListN.{length, getD};
+ghost use Rattle.card.specs.Bits.{unpacked};
+ghost use Rattle.card.specs.Card.{width as widthOf, allBits, card, writeNumber, writeOutput};
+use crate::layout::bit_count;
+use crate::layout::digit;
+use crate::layout::width;
+use crate::layout::word_count;
+use modular::list::below;
+use modular::prime::is_prime;
+
+// Bit i of the words, of w bits each, and 0 after the last.
+fn word_bit(w: usize, words: &[u16], i: usize) -> u32
+    requires { ⌜ (1 ≤ w) × (w ≤ 16) ⌝ }
+    ensures { λ r. ⌜ (r ≡ getD (allBits w (now (words .entry))) i 0) × (r < 2) ⌝ }
+{
+    let k = i / w;
+    if k < words.len() {
+        digit(words[k] as u32, (w - 1 - i % w) as u32)
+    } else {
+        0
+    }
+}
+
+// Bit i of the card, where w is the width of p.
+fn bit(p: u32, n: u32, kind: u32, w: usize, words: &[u16], i: usize) -> u32
+    requires { ⌜ (1 ≤ n) × (1 ≤ w) × (w ≤ 16) × (w ≡ widthOf p) ⌝ }
+    ensures { λ r. ⌜ (r ≡ getD (unpacked (card p n kind (now (words .entry)))) i 0) × (r < 2) ⌝ }
+{
+    if i < 16 {
+        return digit(p, 15 - i as u32);
+    }
+    if i < 20 {
+        return digit(n - 1, 19 - i as u32);
+    }
+    if i < 24 {
+        return digit(kind, 23 - i as u32);
+    }
+    word_bit(w, words, i - 24)
+}
+
+// Byte k of the card.
+fn byte(p: u32, n: u32, kind: u32, w: usize, words: &[u16], k: usize) -> u8
+    requires { ⌜ (1 ≤ n) × (1 ≤ w) × (w ≤ 16) × (w ≡ widthOf p) × (k < length (card p n kind (now words))) × (k ≤ 131) ⌝ }
+    ensures { λ r. ⌜ r ≡ getD (card p n kind (now (words .entry))) k 0 ⌝ }
+{
+    let mut value = 0;
+    let mut j = 0;
+    while j < 8 {
+        value = value * 2 + bit(p, n, kind, w, words, 8 * k + j);
+        j += 1;
+    }
+    value as u8
+}
+
+// Writes the card into the lent bytes, which are as many as it has.
+fn write_bytes(p: u32, n: u32, kind: u32, w: usize, words: &[u16], out: &mut [u8])
+    requires { ⌜ (1 ≤ n) × (1 ≤ w) × (w ≤ 16) × (w ≡ widthOf p) × (length (now out) ≡ length (card p n kind (now words))) × (length (now out) ≤ 131) ⌝ }
+    ensures { λ r. ⌜ now (out .exit) ≡ card p n kind (now (words .entry)) ⌝ }
+{
+    let mut k = 0;
+    while k < out.len() {
+        out[k] = byte(p, n, kind, w, words, k);
+        k += 1;
+    }
+}
+
+// The number of the first refusal that applies, or 0.
+fn fault(p: u32, n: u32, kind: u32, words: &[u16], out: &[u8]) -> u32
+    ensures { λ r. ⌜ r ≡ writeNumber p n kind (now (words .entry)) (now (out .entry)) ⌝ }
+{
+    if !is_prime(p) {
+        return 1;
+    }
+    if n < 1 {
+        return 2;
+    }
+    if n > 16 {
+        return 2;
+    }
+    let count = word_count(n, kind);
+    if count == 0 {
+        return 12;
+    }
+    if words.len() != count {
+        return 3;
+    }
+    if out.len() != (bit_count(width(p), count) + 7) / 8 {
+        return 3;
+    }
+    if !below(p, words) {
+        return 4;
+    }
+    0
+}
+
+// Writes the card of p, n, kind and its words in card order into a list of exactly its length: 0, or the number of the refusal.
+pub fn write(p: u32, n: u32, kind: u32, words: &[u16], out: &mut [u8]) -> u32
+    ensures number { λ r. ⌜ r ≡ writeNumber p n kind (now (words .entry)) (now (out .entry)) ⌝ }
+    ensures output { λ r. ⌜ now (out .exit) ≡ writeOutput p n kind (now (words .entry)) (now (out .entry)) ⌝ }
+{
+    let number = fault(p, n, kind, words, out);
+    if number != 0 {
+        return number;
+    }
+    write_bytes(p, n, kind, width(p), words, out);
+    number
+}
