@@ -24,6 +24,7 @@ pub record Accepted (p n : ℕ) (xss : List (List ℕ)) (out : List ℕ) : Type 
   pub words : (xs : List ℕ) → Member xs xss → Words p n xs
   pub size : length out ≡ n
 
+-- a number 0 says that no condition applied
 not-refused : (k : ℕ) (b : Bool) (rest : ℕ) → refuse (suc k) b rest ≡ 0 → (b ≡ false) × (rest ≡ 0)
 not-refused k true rest e = absurd (omega arith)
 not-refused k false rest e = (refl, e)

@@ -21,6 +21,7 @@ term q c a t v w k = getD (a ∷ w) k 0 + q * getD t k 0 + c * getD v k 0
 entry-mod : (p a b c : ℕ) → (a + b + c) % p ≡ (c % p + (a % p + b % p) % p) % p
 entry-mod p a b c = simp (Nat.mod-add-mod, Nat.add-mod-mod) (ap (λ x. x % p) (omega arith))
 
+-- all entries: modulo p they are those of c·v + X·w, with a in the place of the lowest word
 table-mod : (p q c a n : ℕ) (t v w : List ℕ) → n ≤ length t → n ≤ length v → n ≤ length w
     → reduced p (table (term q c a t v w) n)
     ≡ sum p (scale p c (take n v)) (sum p (shift (a % p) (reduced p (take n w))) (scale p q (take n t)))
@@ -65,6 +66,7 @@ step-mod p q c n t v w b h l m k e =
     ∙ ap₂ (λ a s. sum p (scale p c (take n v)) (sum p (shift a (reduced p (take n w))) s)) (Nat.zero-mod p)
     (scale-same p q (p - top 0 (reduced p (take n w))) (take n t) (opposite-top p q n w b h k e))
 
+-- the product by the words from i on, from that by the words from i + 1 on
 pub product-at : (p n i : ℕ) (t u v : List ℕ) → i < n → n ≤ length u
     → product p t (drop i (take n u)) v ≡ sum p (scale p (getD u i 0) v) (timesX p t (product p t (drop (i + 1) (take n u)) v))
 unfolding product

@@ -1,7 +1,7 @@
 -- An array of 16 words that holds n words and zeros after them: its length, its words, and what a loop over the n words makes of it.
 use mathlib.Core.Path.{_≡_, sym, ap, subst, _∙_}
 use mathlib.Core.List.{List, _++_}
-use Prim.Native.Nat.{ℕ, zero, suc, _-_, _%_, _≤_, _<_}
+use Prim.Native.Nat.{ℕ, zero, suc, _-_, _≤_, _<_}
 use native.Mathlib.Nat as Nat
 use native.Mathlib.Omega.{arith}
 use lib.ListN.{length, getD, take, drop, replicate, length-append, length-take, length-replicate, replicate-append-replicate}
@@ -27,6 +27,7 @@ array-rest n xs h e =
     let l : length (take n xs) ≡ n = length-take-le n xs (array-fits n xs h e) in
     ap (drop n) e ∙ drop-at (take n xs) (replicate (16 - length (take n xs)) 0) n l ∙ ap (λ k. replicate (16 - k) 0) l
 
+-- a loop over the n words leaves the zeros alone
 pub painted-array : (n : ℕ) (f : ℕ → ℕ) (xs : List ℕ) → n ≤ 16 → xs ≡ padded (take n xs) → painted xs f n ≡ padded (table f n)
 unfolding padded
 painted-array n f xs h e =
@@ -42,14 +43,13 @@ words-at none i h = absurd (omega arith)
 words-at (more h w) zero l = h
 words-at (more h w) (suc i) l = words-at w i (omega arith)
 
+-- each of the n words is below p
 pub holds-word : {p n : ℕ} {xs : List ℕ} → Holds p n xs → (i : ℕ) → i < n → getD xs i 0 < p
 holds-word {p} {n} {xs} h i l = subst (λ a. a < p) (getD-take n xs i 0 l) (words-at (h .words) i l)
 
+-- an array with a place below n holds a word below p, so p is not 0
 pub holds-positive : {p n : ℕ} {xs : List ℕ} → Holds p n xs → (i : ℕ) → i < n → 0 < p
 holds-positive h i l = omega (arith, holds-word h i l)
-
-pub mod-below : {p n : ℕ} {xs : List ℕ} → Holds p n xs → (i a : ℕ) → i < n → a % p ≤ p
-mod-below h i a l = Nat.le-of-lt (Nat.mod-lt a (holds-positive h i l))
 
 pub holds-padded : {p n : ℕ} {u : List ℕ} → Words p n u → Holds p n (padded u)
 holds-padded {p} {n} {u} w =

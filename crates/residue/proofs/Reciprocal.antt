@@ -7,6 +7,7 @@ use native.Mathlib.Omega.{arith}
 use mir.Syntax.{w64}
 use mir.Val.{Fits}
 
+-- the three roundings as inequalities, each multiplied out
 quotient-bounds : (m r x h d : ℕ) → 2 ^ 19 ≤ m → h * 2 ^ 19 ≤ x → x < h * 2 ^ 19 + 2 ^ 19 → h ≤ 2 ^ 27 → m * r ≤ 2 ^ 54 → 2 ^ 54 ≤ m * r + m
     → d * 2 ^ 35 ≤ h * r → h * r ≤ d * 2 ^ 35 + 2 ^ 35 → (d * m ≤ x) × (x < d * m + 3 * m)
 quotient-bounds m r x h d low a b c f g i j =
@@ -80,9 +81,6 @@ module _ (p k : ℕ) (big : 2 ≤ p) (small : p ≤ 2 ^ 20) (e : k ≡ 2 ^ 20 / 
   module _ (x r : ℕ) (l : r < 3 * (p * k)) (h : r % (p * k) ≡ x % (p * k)) where
     pub remainder-is : r % p ≡ x % p
     remainder-is = sym (Nat.mod-mod-of-dvd p r (Nat.dvd-mul-right p k)) ∙ ap (λ y. y % p) h ∙ Nat.mod-mod-of-dvd p x (Nat.dvd-mul-right p k)
-
-    pub opposite-below : r ≤ 3 * (p * k)
-    opposite-below = omega arith
 
     pub opposite-small : 3 * (p * k) - r ≤ 3 * 2 ^ 20
     opposite-small = omega (arith, multiple-high)

@@ -65,7 +65,7 @@ module _ (p n i j q : ℕ) (t u v : List ℕ) (small : p ≤ 2 ^ 20) (short : n 
     pub entry-fits : (a b : ℕ) → a ≡ q * getD t j 0 → b ≡ getD u i 0 * getD v j 0 → Fits w64 (carry + a + b)
     entry-fits a b f g = omega (arith, entry-small)
 
--- the loop's turn
+-- turn j writes entry j of the next step
 pub step-turn : (q c carry a b j : ℕ) (t v w w′ : List ℕ) → carry ≡ getD (0 ∷ w) j 0 → a ≡ q * getD t j 0 → b ≡ c * getD v j 0
     → w′ ≡ painted w (term q c 0 t v w) j → set w′ j (carry + a + b) ≡ painted w (term q c 0 t v w) (j + 1)
 step-turn q c carry a b j t v w w′ f g h e = rw (e, f, g, h) (unfold term in painted-next w (term q c 0 t v w) j)

@@ -1,5 +1,5 @@
 -- Substitution by Horner's rule on arrays: w ↦ S·w + c, where adding the constant c changes the lowest word only.
-use mathlib.Core.Path.{_≡_, refl, sym, ap, ap₂, subst, _∙_}
+use mathlib.Core.Path.{_≡_, refl, sym, ap, ap₂, _∙_}
 use mathlib.Core.List.{List, _∷_}
 use Prim.Native.Nat.{ℕ, zero, suc, _+_, _-_, _%_, _^_, _≤_, _<_}
 use native.Mathlib.Nat as Nat
@@ -11,7 +11,7 @@ use mir.Val.{Fits}
 use Rattle.quotient.specs.Residue.{Words, none, more, sum, constant, product, substitute}
 use Rattle.quotient.proofs.Words.{words-length, constant-zero, product-words, substitute-words}
 use Rattle.residue.specs.Array.{padded, Holds}
-use Rattle.residue.proofs.Padded.{padded-zeros, take-padded, holds-padded, holds-word}
+use Rattle.residue.proofs.Padded.{padded-zeros, holds-word, holds-is, front-is}
 
 zeros-sum : {p n : ℕ} {u : List ℕ} → Words p n u → sum p (replicate n 0) u ≡ u
 unfolding sum
@@ -29,6 +29,7 @@ words-drop {n = n} w zero = rw (Nat.sub-zero n) w
 words-drop none (suc i) = rw (Nat.zero-sub (suc i)) none
 words-drop (more {n = m} h w) (suc i) = rw (Nat.suc-sub-suc m i) (words-drop w i)
 
+-- the value of the words from i − 1 on, from that of the words from i on
 substitute-at : (p n i : ℕ) (t s u : List ℕ) → 0 < i → i ≤ n → length (take n u) ≡ n
     → substitute p t s (drop (i - 1) (take n u)) ≡ sum p (constant (length t) (getD u (i - 1) 0)) (product p t s (substitute p t s (drop i (take n u))))
 unfolding substitute
@@ -58,14 +59,14 @@ module _ (p n i : ℕ) (t s u w : List ℕ) (e : w ≡ padded (substitute p (tak
   rest-words = substitute-words big (x .words) (y .words) (words-drop (z .words) i)
 
   pub substitute-holds : Holds p n w
-  substitute-holds = subst (Holds p n) (sym e) (holds-padded rest-words)
+  substitute-holds = holds-is e rest-words
 
   module _ (r : List ℕ) (f : r ≡ padded (product p (take n t) (take n s) (take n w))) (h : 1 ≤ n) (l : 0 < i) (m : i ≤ n) where
     next-words : Words p n (product p (take n t) (take n s) (take n w))
     next-words = product-words big (x .words) (take n s) (substitute-holds .words)
 
     pub substitute-fits : p ≤ 2 ^ 20 → Fits w64 (getD r 0 0 + getD u (i - 1) 0)
-    substitute-fits b = omega (arith, holds-word (subst (Holds p n) (sym f) (holds-padded next-words)) 0 h, holds-word z (i - 1) (omega arith))
+    substitute-fits b = omega (arith, holds-word (holds-is f next-words) 0 h, holds-word z (i - 1) (omega arith))
 
     pub substitute-turn : set r 0 ((getD r 0 0 + getD u (i - 1) 0) % p) ≡ padded (substitute p (take n t) (take n s) (drop (i - 1) (take n u)))
     substitute-turn =
@@ -73,5 +74,5 @@ module _ (p n i : ℕ) (t s u w : List ℕ) (e : w ≡ padded (substitute p (tak
         ap (λ l. set l 0 ((getD l 0 0 + c) % p)) f
         ∙ constant-sum h next-words c
         ∙ ap padded
-        (ap₂ (λ k l. sum p (constant k c) (product p (take n t) (take n s) l)) (sym (words-length (x .words))) (ap (take n) e ∙ take-padded n _ (words-length rest-words))
+        (ap₂ (λ k l. sum p (constant k c) (product p (take n t) (take n s) l)) (sym (words-length (x .words))) (front-is e rest-words)
         ∙ sym (substitute-at p n i (take n t) (take n s) u l m (words-length (z .words))))
