@@ -12,7 +12,8 @@ use Rattle.card.specs.Card.{width, wordCount, cardLength, fieldAt, cardP
 use Rattle.card.proofs.Fields.{fields-length}
 use Rattle.card.proofs.WordCount.{Counted, counted-kind}
 use Rattle.card.proofs.Scans.{entries}
-use Rattle.card.proofs.Conditions.{prime-bounds, degree-bounds, length-is}
+use Rattle.modular.proofs.Refusal.{prime-bounds, degree-given}
+use Rattle.card.proofs.Conditions.{length-is}
 use Rattle.card.proofs.Refusals.{Readable, readable, Writable, writable}
 use Rattle.card.proofs.Width.{width-positive}
 use Rattle.card.proofs.Theorem.{longest-card}
@@ -103,7 +104,7 @@ module _ (p n kind : ℕ) (words out : List ℕ) (number : ℕ) (e : number ≡ 
     prime-fits = prime-bounds p (fit .prime) .1
 
     pub degree-there : 1 ≤ n
-    degree-there = degree-bounds n (fit .degree) .0
+    degree-there = degree-given n (fit .degree) .0
 
     pub width-there : (w : ℕ) → w ≡ width p → 1 ≤ w
     width-there w ew = rw ew (width-positive p (prime-bounds p (fit .prime) .0) prime-fits)

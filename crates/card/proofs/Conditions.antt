@@ -9,24 +9,8 @@ use lib.Dec.{ltb, leb, eqb}
 use lib.ListN.{length}
 use borrow.Author.Tests.{ltb-true, leb-true, le-leb, eqb-true, eq-eqb, not-false}
 use Rattle.algebra.specs.Lists.{All, all}
-use Rattle.modular.specs.Prime.{isPrime}
-use Rattle.modular.specs.Refusal.{badPrime, badDegree, badLength, allBelow, badWord}
-use Rattle.modular.proofs.IsPrime.{prime-of-test}
+use Rattle.modular.specs.Refusal.{badLength, allBelow, badWord}
 use Rattle.card.specs.Card.{badKind}
-
-pub prime-bounds : (p : ℕ) → badPrime p ≡ false → (2 ≤ p) × (p ≤ 65535)
-unfolding badPrime
-prime-bounds p h = let t = prime-of-test p (not-false (isPrime p) h) in (t .0 .0, t .1)
-
-pub degree-bounds : (n : ℕ) → badDegree n ≡ false → (1 ≤ n) × (n ≤ 16)
-unfolding badDegree
-degree-bounds n h =
-    let b : (leb 1 n ≡ true) × (leb n 16 ≡ true) = and-eq-true-iff (leb 1 n) (leb n 16) .0 (not-false (leb 1 n && leb n 16) h) in
-    (leb-true 1 n (b .0), leb-true n 16 (b .1))
-
-pub degree-good : (n : ℕ) → 1 ≤ n → n ≤ 16 → badDegree n ≡ false
-unfolding badDegree
-degree-good n l h = ap₂ (λ a b. not (a && b)) (le-leb 1 n l) (le-leb n 16 h)
 
 kind-cases : (kind : ℕ) → badKind kind ≡ false → (kind ≡ 1) ⊎ (kind ≡ 2)
 unfolding badKind

@@ -10,14 +10,10 @@ use lib.Dec.{ltb, eqb}
 use lib.ListN.{length}
 use borrow.Author.Tests.{eqb-true, eq-eqb, not-false}
 use Rattle.algebra.specs.Lists.{all}
+use Rattle.modular.proofs.Refusal.{refuse-none}
 use Rattle.modular.specs.Refusal.{refuse, badPrime, badDegree, badLength, badWord}
 use Rattle.card.specs.Card.{badKind, wordCount, cardLength, cardPrime, cardDegree, cardKind, cardWords, fillBits, readNumber, writeNumber}
 use Rattle.card.proofs.Lists.{isZero}
-
--- a call succeeds where its first condition does not apply and those after it do not
-refuse-zero : (k : ℕ) (b : Bool) (rest : ℕ) → refuse (suc k) b rest ≡ 0 → (b ≡ false) × (rest ≡ 0)
-refuse-zero k true rest h = absurd (omega arith)
-refuse-zero k false rest h = (refl, h)
 
 or-false-both : (a b : Bool) → (a || b) ≡ false → (a ≡ false) × (b ≡ false)
 or-false-both true b h = absurd (false≢true (sym h))
@@ -34,12 +30,12 @@ pub record Writable (p n kind : ℕ) (words out : List ℕ) : Type 0 where
 pub writable : (p n kind : ℕ) (words out : List ℕ) → writeNumber p n kind words out ≡ 0 → Writable p n kind words out
 unfolding writeNumber
 writable p n kind words out h =
-    let r1 = refuse-zero 0 (badPrime p) _ h in
-    let r2 = refuse-zero 1 (badDegree n) _ (r1 .1) in
-    let r12 = refuse-zero 11 (badKind kind) _ (r2 .1) in
-    let r3 = refuse-zero 2 _ _ (r12 .1) in
+    let r1 = refuse-none 0 (badPrime p) _ h in
+    let r2 = refuse-none 1 (badDegree n) _ (r1 .1) in
+    let r12 = refuse-none 11 (badKind kind) _ (r2 .1) in
+    let r3 = refuse-none 2 _ _ (r12 .1) in
     let lengths = or-false-both (badLength (wordCount n kind) (words ∷ [])) (badLength (cardLength p n kind) (out ∷ [])) (r3 .0) in
-    let r4 = refuse-zero 3 (badWord p (words ∷ [])) 0 (r3 .1) in
+    let r4 = refuse-none 3 (badWord p (words ∷ [])) 0 (r3 .1) in
     record { prime = r1 .0; degree = r2 .0; kind-good = r12 .0; count = lengths .0; size = lengths .1; below = r4 .0 }
 
 pub write-accepts : (p n kind : ℕ) (words out : List ℕ) → Writable p n kind words out → writeNumber p n kind words out ≡ 0
@@ -58,14 +54,14 @@ pub record Readable (ys out : List ℕ) : Type 0 where
 pub readable : (ys out : List ℕ) → readNumber ys out ≡ 0 → Readable ys out
 unfolding readNumber
 readable ys out h =
-    let r3 = refuse-zero 2 (badLength 64 (out ∷ [])) _ h in
-    let r11 = refuse-zero 10 (ltb (length ys) 3) _ (r3 .1) in
-    let r1 = refuse-zero 0 (badPrime (cardPrime ys)) _ (r11 .1) in
-    let r12 = refuse-zero 11 (badKind (cardKind ys)) _ (r1 .1) in
+    let r3 = refuse-none 2 (badLength 64 (out ∷ [])) _ h in
+    let r11 = refuse-none 10 (ltb (length ys) 3) _ (r3 .1) in
+    let r1 = refuse-none 0 (badPrime (cardPrime ys)) _ (r11 .1) in
+    let r12 = refuse-none 11 (badKind (cardKind ys)) _ (r1 .1) in
     let size : Bool = eqb (length ys) (cardLength (cardPrime ys) (cardDegree ys) (cardKind ys)) in
-    let s11 = refuse-zero 10 (not size) _ (r12 .1) in
-    let r13 = refuse-zero 12 (not (all isZero (fillBits ys))) _ (s11 .1) in
-    let r4 = refuse-zero 3 (badWord (cardPrime ys) (cardWords ys ∷ [])) 0 (r13 .1) in
+    let s11 = refuse-none 10 (not size) _ (r12 .1) in
+    let r13 = refuse-none 12 (not (all isZero (fillBits ys))) _ (s11 .1) in
+    let r4 = refuse-none 3 (badWord (cardPrime ys) (cardWords ys ∷ [])) 0 (r13 .1) in
     record {
       lent = r3 .0;
       header = r11 .0;

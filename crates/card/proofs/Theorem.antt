@@ -12,7 +12,8 @@ use Rattle.card.specs.Card.{width, wordCount, allBits, card, cardLength,
 use Rattle.card.specs.Theorem.{Answer, WrittenReadsBack, ReadIsWritten, LongestCard}
 use Rattle.card.proofs.Lists.{zeros-pass}
 use Rattle.card.proofs.Width.{width-most}
-use Rattle.card.proofs.Conditions.{prime-bounds, degree-bounds, degree-good, kind-bounds, length-is, length-good, words-below}
+use Rattle.modular.proofs.Refusal.{prime-bounds, degree-given, given-degree}
+use Rattle.card.proofs.Conditions.{kind-bounds, length-is, length-good, words-below}
 use Rattle.card.proofs.Refusals.{Writable, writable, write-accepts, Readable, readable, read-accepts}
 use Rattle.card.proofs.Written.{header, says-prime, says-degree, says-kind, says-words, says-fill, fillCount, card-length, unpacked-card}
 use Rattle.card.proofs.Read.{degree-range, count, written-again}
@@ -39,7 +40,7 @@ pub written-reads-back : WrittenReadsBack
 written-reads-back p n kind words lent out accepted room =
     let a : Writable p n kind words lent = writable p n kind words lent accepted in
     let p-bounds : (2 ≤ p) × (p ≤ 65535) = prime-bounds p (a .prime) in
-    let n-bounds : (1 ≤ n) × (n ≤ 16) = degree-bounds n (a .degree) in
+    let n-bounds : (1 ≤ n) × (n ≤ 16) = degree-given n (a .degree) in
     let k-bounds : (1 ≤ kind) × (kind ≤ 2) = kind-bounds kind (a .kind-good) in
     let count : length words ≡ wordCount n kind = length-is (wordCount n kind) words (a .count) in
     let ys : List ℕ = card p n kind words in
@@ -72,7 +73,7 @@ read-is-written ys out are-bytes accepted =
       write-accepts (cardPrime ys) (cardDegree ys) (cardKind ys) (cardWords ys) ys
           (record {
             prime = a .prime;
-            degree = degree-good (cardDegree ys) (degree-range ys are-bytes (a .size) .0) (degree-range ys are-bytes (a .size) .1);
+            degree = given-degree (cardDegree ys) (degree-range ys are-bytes (a .size) .0) (degree-range ys are-bytes (a .size) .1);
             kind-good = a .kind-good;
             count = length-good (wordCount (cardDegree ys) (cardKind ys)) (cardWords ys) (count ys are-bytes (a .size));
             size = length-good (cardLength (cardPrime ys) (cardDegree ys) (cardKind ys)) ys (a .size);
@@ -90,6 +91,6 @@ longest-card = (longest, refl)
         let a : Writable p n kind words out = writable p n kind words out accepted in
         let k-bounds : (1 ≤ kind) × (kind ≤ 2) = kind-bounds kind (a .kind-good) in
         let lists-most : 2 * kind ≤ 4 = omega arith in
-        let words-most : 2 * kind * n ≤ 64 = mul-le-mul lists-most (degree-bounds n (a .degree) .1) in
+        let words-most : 2 * kind * n ≤ 64 = mul-le-mul lists-most (degree-given n (a .degree) .1) in
         let bits-most : 2 * kind * n * width p ≤ 64 * 16 = mul-le-mul words-most (width-most p (prime-bounds p (a .prime) .1)) in
         (written-length p n kind words (length-is (wordCount n kind) words (a .count)), omega arith)

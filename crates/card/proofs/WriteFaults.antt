@@ -9,7 +9,8 @@ use borrow.Author.Tests.{ne-eqb, le-leb, lt-leb}
 use Rattle.modular.specs.Prime.{isPrime}
 use Rattle.modular.specs.Refusal.{refuse, badPrime, badDegree, badLength, allBelow, badWord}
 use Rattle.card.specs.Card.{width, badKind, wordCount, cardLength, writeNumber}
-use Rattle.card.proofs.Conditions.{prime-bounds, degree-good, bad-length-one, length-good, bad-word-one}
+use Rattle.modular.proofs.Refusal.{prime-bounds, given-degree}
+use Rattle.card.proofs.Conditions.{bad-length-one, length-good, bad-word-one}
 use Rattle.card.proofs.WordCount.{Counted, counted-refused, counted-good}
 
 pub prime-most : (p : ℕ) (b : Bool) → b ≡ isPrime p → not b ≡ false → p ≤ 65535
@@ -35,7 +36,7 @@ module _ (p n kind : ℕ) (words out : List ℕ) (b : Bool) (eb : b ≡ isPrime 
       after-degree : writeNumber p n kind words out
           ≡ refuse 12 (badKind kind) (refuse 3 (badLength (wordCount n kind) (words ∷ []) || badLength (cardLength p n kind) (out ∷ [])) (refuse 4 (badWord p (words ∷ [])) 0))
       unfolding writeNumber badPrime
-      after-degree = rw (← eb, prime, degree-good n low high)
+      after-degree = rw (← eb, prime, given-degree n low high)
 
       pub write-kind : count ≡ 0 → 12 ≡ writeNumber p n kind words out
       write-kind h = rw (after-degree, counted-refused n kind count counted h)

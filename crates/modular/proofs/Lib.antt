@@ -6,3 +6,4 @@ pub mod TrialDivision
 pub mod Inverse
 pub mod Bezout
 pub mod Field
+pub mod Refusal

@@ -1,46 +1,17 @@
--- What it means that a refusal does not apply (document 01, "Caused by what was sent"): a call gives 0 where none of its conditions applies,
--- and then p is a prime up to 65,535, n is 1 to 16 and every list is n words below p.
---   refuse-none                    the number is 0: the first condition does not apply, and what comes after it is 0
---   prime-given, given-prime       1 does not apply exactly to the primes up to 65,535
---   degree-given, given-degree     2 does not apply exactly to 1 to 16
+-- What it means that a refusal of the lists does not apply (document 01, "Caused by what was sent"): every list is n words below p.
 --   words-given, given-lengths, given-words   3 and 4 do not apply exactly to lists of n words below p
 use mathlib.Core.Path.{_≡_, refl, ap, ap₂, subst}
-use mathlib.Core.Bool.{Bool, true, false, not, _&&_, and-eq-true-iff}
+use mathlib.Core.Bool.{true, false, not, _&&_, and-eq-true-iff}
 use mathlib.Core.List.{List, [], _∷_}
-use Prim.Native.Nat.{ℕ, suc, _≤_}
-use native.Mathlib.Omega.{arith}
-use lib.Dec.{leb, ltb, eqb}
+use Prim.Native.Nat.{ℕ}
+use lib.Dec.{ltb, eqb}
 use lib.ListN.{length}
-use borrow.Author.Tests.{leb-true, le-leb, ltb-true, lt-ltb, eqb-true, eq-eqb, not-false}
+use borrow.Author.Tests.{ltb-true, lt-ltb, eqb-true, eq-eqb, not-false}
 use Rattle.algebra.specs.Lists.{All, all}
-use Rattle.algebra.specs.Prime.{Prime}
-use Rattle.modular.specs.Prime.{isPrime}
-use Rattle.modular.specs.Refusal.{refuse, badPrime, badDegree, badLength, badWord, allBelow}
-use Rattle.modular.proofs.IsPrime.{prime-of-test, test-of-prime}
+use Rattle.modular.specs.Refusal.{badLength, badWord, allBelow}
+pub use Rattle.modular.proofs.Refusal.{refuse-none, prime-given, given-prime, degree-given, given-degree}
 use Rattle.quotient.specs.Residue.{Words, none, more}
 use Rattle.quotient.proofs.Words.{words-length}
-
-pub refuse-none : (k : ℕ) (b : Bool) (rest : ℕ) → refuse (suc k) b rest ≡ 0 → (b ≡ false) × (rest ≡ 0)
-refuse-none k true rest h = absurd (omega arith)
-refuse-none k false rest h = (refl, h)
-
-pub prime-given : (p : ℕ) → badPrime p ≡ false → Prime p × (p ≤ 65535)
-unfolding badPrime
-prime-given p h = prime-of-test p (not-false (isPrime p) h)
-
-pub given-prime : (p : ℕ) → Prime p → p ≤ 65535 → badPrime p ≡ false
-unfolding badPrime
-given-prime p h l = ap not (test-of-prime p h l)
-
-pub degree-given : (n : ℕ) → badDegree n ≡ false → (1 ≤ n) × (n ≤ 16)
-unfolding badDegree
-degree-given n h =
-    let ends = and-eq-true-iff (leb 1 n) (leb n 16) .0 (not-false (leb 1 n && leb n 16) h) in
-    (leb-true 1 n (ends .0), leb-true n 16 (ends .1))
-
-pub given-degree : (n : ℕ) → 1 ≤ n → n ≤ 16 → badDegree n ≡ false
-unfolding badDegree
-given-degree n l h = ap₂ (λ a b. not (a && b)) (le-leb 1 n l) (le-leb n 16 h)
 
 -- one list
 
