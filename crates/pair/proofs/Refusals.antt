@@ -96,7 +96,7 @@ module _ (p n : ℕ) (xss : List (List ℕ)) (a : Bool) (e : a ≡ isPrime p) wh
         refuse-nothing o = rw (← e, f, ← g, h, ← k, l, ← m, o)
 
 -- a number that is not 0 is that of 1 to 4, whatever comes after them
-first-stays : (a b c d : Bool) (rest : ℕ) → (refuse 1 a (refuse 2 b (refuse 3 c (refuse 4 d 0))) ≡ 0 → ⊥)
+pub first-stays : (a b c d : Bool) (rest : ℕ) → (refuse 1 a (refuse 2 b (refuse 3 c (refuse 4 d 0))) ≡ 0 → ⊥)
     → refuse 1 a (refuse 2 b (refuse 3 c (refuse 4 d 0))) ≡ refuse 1 a (refuse 2 b (refuse 3 c (refuse 4 d rest)))
 first-stays true b c d rest h = refl
 first-stays false true c d rest h = refl

@@ -23,7 +23,7 @@ output-new r number new old out e z h = rw (eq-eqb number 0 (sym e ∙ z)) h
 pub output-old : (r number : ℕ) (new old : List ℕ) → r ≡ number → (r ≡ 0 → ⊥) → old ≡ written number new old
 output-old r number new old e z = rw (ne-eqb number 0 (λ f. z (e ∙ f)))
 
-words-up : {p q n : ℕ} {u : List ℕ} → p ≤ q → Words p n u → Words q n u
+pub words-up : {p q n : ℕ} {u : List ℕ} → p ≤ q → Words p n u → Words q n u
 words-up h none = none
 words-up h (more k w) = more (Nat.lt-of-lt-of-le k h) (words-up h w)
 

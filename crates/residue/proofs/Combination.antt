@@ -23,7 +23,7 @@ use Rattle.residue.proofs.Padded.{words-at, array-fits}
 use Rattle.residue.proofs.Painted.{table}
 use Rattle.residue.proofs.Rows.{table-range}
 
-unfoldable inner : List ℕ → (ℕ → ℕ) → ℕ
+unfoldable pub inner : List ℕ → (ℕ → ℕ) → ℕ
 inner [] a = 0
 inner (c ∷ u) a = c * a 0 + inner u (λ j. a (suc j))
 
@@ -48,7 +48,7 @@ sum-word none none i l = absurd (omega arith)
 sum-word (more h w) (more k v) zero l = refl
 sum-word (more h w) (more k v) (suc i) l = sum-word w v i (omega arith)
 
-scale-word : {p n : ℕ} (c : ℕ) {u : List ℕ} → Words p n u → (i : ℕ) → i < n → getD (scale p c u) i 0 ≡ (c * getD u i 0) % p
+pub scale-word : {p n : ℕ} (c : ℕ) {u : List ℕ} → Words p n u → (i : ℕ) → i < n → getD (scale p c u) i 0 ≡ (c * getD u i 0) % p
 unfolding scale
 scale-word c none i l = absurd (omega arith)
 scale-word c (more h w) zero l = refl
@@ -91,7 +91,7 @@ module _ {p n : ℕ} {t : List ℕ} (big : 2 ≤ p) (wt : Words p n t) (s : Resi
       ∙ Nat.mod-add-mod (c * a 0) p _ ∙ Nat.add-mod-mod (c * a 0) _ p
 
   -- word i of u(S)
-  substitute-word : (i : ℕ) → i < n → (u : List ℕ) (a : ℕ → ℕ) → ((j : ℕ) → j < length u → a j ≡ getD (power p t (s .0) j) i 0)
+  pub substitute-word : (i : ℕ) → i < n → (u : List ℕ) (a : ℕ → ℕ) → ((j : ℕ) → j < length u → a j ≡ getD (power p t (s .0) j) i 0)
       → getD (substitute p t (s .0) u) i 0 ≡ inner u a % p
   unfolding term
   substitute-word i l u a h =

@@ -44,7 +44,7 @@ pub fn bad_word(p: u32, t: &[u16], u: &[u16], v: &[u16]) -> bool
 }
 
 // The number of the first refusal that applies, 0 where none does.
-fn first(prime: bool, degree: bool, length: bool, word: bool) -> u32
+pub fn first(prime: bool, degree: bool, length: bool, word: bool) -> u32
     ensures { λ r. ⌜ r ≡ refuse 1 prime (refuse 2 degree (refuse 3 length (refuse 4 word 0))) ⌝ }
 {
     if prime {
