@@ -1,0 +1,67 @@
+-- The finder's values (document 01, "The finder"), each by search over what its sentence ranges over, in the order of the document.
+--   zeta p n            the smallest integer from 1 to p − 1 with ζ^n = 1 mod p and no ζ^m = 1 for 1 ≤ m < n
+--   alpha p t z         not zero, α^p = ζ·α modulo T, and its first coefficient that is not zero is 1
+--   powerConstant p t a a^n modulo T, which is a constant
+--   ratio p n a1 a2     c, the smallest integer from 1 to p − 1 with c^n·a2 = a1 mod p
+--   express p t a       the polynomial P of degree below n with P(a) = X modulo T
+--   findS p n t1 t2     S = P1(c·α2) mod T2, with P1(α1) = X mod T1
+--   findR p n t1 t2     the one polynomial R of degree below n with R(S) = X mod T2
+--   findNumber …        the finder's answer: 1 to 7, or 0 where it returns the pair
+use mathlib.Core.Bool.{Bool, true, false, _&&_, not}
+use mathlib.Core.List.{List, [], _∷_}
+use Prim.Native.Nat.{ℕ, _-_, _*_, _%_, _^_}
+use lib.Dec.{eqb}
+use lib.ListN.{length, getD}
+use Rattle.algebra.specs.Lists.{all, equal, range, first}
+use Rattle.modular.specs.Refusal.{refuse, badPrime, badDegree, badLength, badWord, written}
+use Rattle.quotient.specs.DivisorTest.{hasDivisor}
+use Rattle.quotient.specs.Residue.{residues, scale, constant, power, residueOfX, substitute}
+
+unfoldable pub zeta : ℕ → ℕ → ℕ
+zeta p n = first (λ z. eqb (z ^ n % p) 1 && all (λ m. not (eqb (z ^ m % p) 1)) (range 1 (n - 1))) 0 (range 1 (p - 1))
+
+-- the first coefficient that is not zero, counted from the constant; 0 where there is none
+unfoldable pub leading : List ℕ → ℕ
+leading [] = 0
+leading (a ∷ u) = elim (eqb a 0) [ true ↦ leading u | false ↦ a ]
+
+-- the first residue modulo T that passes a test; 0 where none does
+unfoldable pub firstResidue : ℕ → List ℕ → (List ℕ → Bool) → List ℕ
+firstResidue p t test = first test (constant (length t) 0) (residues p (length t))
+
+unfoldable pub alpha : ℕ → List ℕ → ℕ → List ℕ
+alpha p t z =
+    firstResidue p t (λ a. not (equal a (constant (length t) 0)) && equal (power p t a p) (scale p z a) && eqb (leading a) 1)
+
+unfoldable pub powerConstant : ℕ → List ℕ → List ℕ → ℕ
+powerConstant p t a = getD (power p t a (length t)) 0 0
+
+unfoldable pub ratio : ℕ → ℕ → ℕ → ℕ → ℕ
+ratio p n a1 a2 = first (λ c. eqb (c ^ n * a2 % p) a1) 0 (range 1 (p - 1))
+
+unfoldable pub express : ℕ → List ℕ → List ℕ → List ℕ
+express p t a = firstResidue p t (λ f. equal (substitute p t a f) (residueOfX p t))
+
+unfoldable pub findS : ℕ → ℕ → List ℕ → List ℕ → List ℕ
+findS p n t1 t2 =
+    let a1 = alpha p t1 (zeta p n) in
+    let a2 = alpha p t2 (zeta p n) in
+    let c = ratio p n (powerConstant p t1 a1) (powerConstant p t2 a2) in
+    substitute p t2 (scale p c a2) (express p t1 a1)
+
+unfoldable pub findR : ℕ → ℕ → List ℕ → List ℕ → List ℕ
+findR p n t1 t2 = express p t2 (findS p n t1 t2)
+
+unfoldable pub findNumber : ℕ → ℕ → List ℕ → List ℕ → List ℕ → List ℕ → ℕ
+findNumber p n t1 t2 lentS lentR =
+    refuse 1 (badPrime p)
+    (refuse 2 (badDegree n)
+    (refuse 3 (badLength n (t1 ∷ t2 ∷ lentS ∷ lentR ∷ []))
+    (refuse 4 (badWord p (t1 ∷ t2 ∷ []))
+    (refuse 5 (not (eqb ((p - 1) % n) 0)) (refuse 6 (hasDivisor p t1) (refuse 7 (hasDivisor p t2) 0))))))
+
+unfoldable pub findOutputS : ℕ → ℕ → List ℕ → List ℕ → List ℕ → List ℕ → List ℕ
+findOutputS p n t1 t2 lentS lentR = written (findNumber p n t1 t2 lentS lentR) (findS p n t1 t2) lentS
+
+unfoldable pub findOutputR : ℕ → ℕ → List ℕ → List ℕ → List ℕ → List ℕ → List ℕ
+findOutputR p n t1 t2 lentS lentR = written (findNumber p n t1 t2 lentS lentR) (findR p n t1 t2) lentR

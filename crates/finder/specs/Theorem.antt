@@ -1,0 +1,69 @@
+-- Demand 3, whole. Read this file first; Finder.antt beside it has the finder's values, Theorem.antt of the crate pair the checker's half,
+-- and Residue.antt, Map.antt and Divisor.antt of the crate quotient the residues, the maps and the divisors.
+-- For every prime p up to 65,535, every n from 1 to 16 and all monic T1 and T2 of degree n:
+-- (a) an accepted pair's two maps preserve sums, products and one, and each undoes the other on every residue;
+-- (b) if n divides p − 1, the finder, lent two lists of n words, returns a pair exactly when neither modulus has a monic divisor of
+--     degree 1 to n − 1; that pair is the one of Algorithm 2.1 with document 01's choices, and the checker accepts it.
+--   Smallest P p k              k is the smallest integer from 1 to p − 1 that satisfies P
+--   Eigenvector p t z a         a is not zero, a^p = z·a modulo T, and its first coefficient that is not zero is 1
+--   ChosenPair p n t1 t2 s r    S and R are the polynomials of Algorithm 2.1 with the choices of document 01
+use mathlib.Core.Path.{_≡_}
+use mathlib.Core.List.{List}
+use mathlib.Core.Logic.{_↔_}
+use Prim.Native.Nat.{ℕ, _-_, _*_, _%_, _^_, _≤_, _<_}
+use lib.ListN.{length}
+use Rattle.algebra.specs.Prime.{Prime}
+use Rattle.pair.specs.Pair.{checkNumber}
+use Rattle.pair.specs.Theorem.{Isomorphisms}
+use Rattle.quotient.specs.Divisor.{HasDivisor}
+use Rattle.quotient.specs.Residue.{Words, scale, constant, power, residueOfX, substitute}
+use Rattle.finder.specs.Finder.{leading, findNumber, findOutputS, findOutputR}
+
+abbrev pub Smallest : (ℕ → Type 0) → ℕ → ℕ → Type 0
+Smallest P p k = (1 ≤ k) × (k < p) × P k × ((j : ℕ) → 1 ≤ j → j < k → P j → ⊥)
+
+pub record Eigenvector (p : ℕ) (t : List ℕ) (z : ℕ) (a : List ℕ) : Type 0 where
+  pub words : Words p (length t) a
+  pub not-zero : a ≡ constant (length t) 0 → ⊥
+  pub power-is : power p t a p ≡ scale p z a
+  pub leading-is : leading a ≡ 1
+
+pub record ChosenPair (p n : ℕ) (t1 t2 s r : List ℕ) : Type 0 where
+  pub z : ℕ
+  pub alpha1 : List ℕ
+  pub alpha2 : List ℕ
+  pub a1 : ℕ
+  pub a2 : ℕ
+  pub c : ℕ
+  pub p1 : List ℕ
+  pub z-is : Smallest (λ k. (k ^ n % p ≡ 1) × ((m : ℕ) → 1 ≤ m → m < n → k ^ m % p ≡ 1 → ⊥)) p z
+  pub alpha1-is : Eigenvector p t1 z alpha1
+  pub alpha2-is : Eigenvector p t2 z alpha2
+  pub a1-is : power p t1 alpha1 n ≡ constant n a1
+  pub a2-is : power p t2 alpha2 n ≡ constant n a2
+  pub c-is : Smallest (λ k. k ^ n * a2 % p ≡ a1) p c
+  pub p1-is : Words p n p1 × (substitute p t1 alpha1 p1 ≡ residueOfX p t1)
+  pub s-is : s ≡ substitute p t2 (scale p c alpha2) p1
+  pub r-is : Words p n r × (substitute p t2 s r ≡ residueOfX p t2)
+
+-- two models of one size
+pub record Models (p n : ℕ) (t1 t2 : List ℕ) : Type 0 where
+  pub prime : Prime p
+  pub small : p ≤ 65535
+  pub degree : (1 ≤ n) × (n ≤ 16)
+  pub modulus1 : Words p n t1
+  pub modulus2 : Words p n t2
+
+pub record Demand3 (p n : ℕ) (t1 t2 : List ℕ) : Type 0 where
+  pub accepted : (s r : List ℕ) → checkNumber p n t1 t2 s r ≡ 0 → Isomorphisms p n t1 t2 s r
+  pub returns :
+      (p - 1) % n ≡ 0 → (lentS lentR : List ℕ) → length lentS ≡ n → length lentR ≡ n
+      → (findNumber p n t1 t2 lentS lentR ≡ 0) ↔ ((HasDivisor p t1 → ⊥) × (HasDivisor p t2 → ⊥))
+  pub found :
+      (lentS lentR : List ℕ) → findNumber p n t1 t2 lentS lentR ≡ 0
+      → ChosenPair p n t1 t2 (findOutputS p n t1 t2 lentS lentR) (findOutputR p n t1 t2 lentS lentR)
+      × (checkNumber p n t1 t2 (findOutputS p n t1 t2 lentS lentR) (findOutputR p n t1 t2 lentS lentR) ≡ 0)
+  pub only-one : (s r s' r' : List ℕ) → ChosenPair p n t1 t2 s r → ChosenPair p n t1 t2 s' r' → (s ≡ s') × (r ≡ r')
+
+abbrev pub Demand3Theorem : Type 0
+Demand3Theorem = (p n : ℕ) (t1 t2 : List ℕ) → Models p n t1 t2 → Demand3 p n t1 t2
