@@ -1,0 +1,172 @@
+-- The loops of `unity`: the powers of w are compared with 1 from the first on; the numbers g are tried from 1 on; the smallest of the
+-- powers of w that have order n is kept.
+--   Lower p n w x m        x = w^m, and no w^k with 1 ≤ k < m is 1
+--   Tried p n g            1 ≤ g < p, and no j with 1 ≤ j < g has a power j^((p − 1)/n) of order n
+--   Kept p n w least x k   x = w^k, and `least` is the smallest of w, w², …, w^k that has order n
+use mathlib.Core.Path.{_≡_, refl, sym, ap, subst, _∙_}
+use mathlib.Core.Bool.{Bool, true, false, not, false≢true}
+use mathlib.Core.Logic.{⊎-elim}
+use Prim.Native.Nat.{ℕ, zero, suc, _+_, _-_, _*_, _/_, _%_, _^_, _≤_, _<_}
+use native.Mathlib.Nat.{mod-eq-of-lt, pow-zero, pow-succ', pow-suc, eq-or-lt-of-le}
+use native.Mathlib.Numerals.{add-one}
+use native.Mathlib.Omega.{arith}
+use lib.Dec.{eqb}
+use borrow.Author.Tests.{eqb-true, eqb-false, not-true, not-false}
+use Rattle.algebra.proofs.Modulo.{mod-mul-mod}
+use Rattle.finder.specs.Finder.{zeta}
+use Rattle.finder.specs.Theorem.{Smallest}
+use Rattle.finder.specs.Root.{Decides, Admissible, OrderModulo}
+use Rattle.finder.proofs.Smallest.{smallest-unique}
+use Rattle.finder.proofs.Zeta.{zeta-is, order-positive}
+use Rattle.finder.proofs.RootsOfUnity.{unity-is-power, generator-exists}
+
+power-first : (p w : ℕ) → w < p → w ≡ w ^ 1 % p
+power-first p w l = sym (mod-eq-of-lt l) ∙ ap (λ x. x % p) (sym (pow-succ' w 0 ∙ ap (λ x. w * x) (pow-zero w) ∙ omega arith))
+
+power-next : (p w m x y : ℕ) → x ≡ w ^ m % p → y ≡ x * w % p → y ≡ w ^ (m + 1) % p
+power-next p w m x y ex ey =
+    ey ∙ ap (λ k. k * w % p) ex ∙ mod-mul-mod (w ^ m) p w ∙ ap (λ k. k % p) (sym (pow-suc w m)) ∙ ap (λ k. w ^ k % p) (sym (add-one m))
+
+pub record Lower (p n w x m : ℕ) : Type 0 where
+  pub from : 1 ≤ m
+  pub to : m ≤ n
+  pub power-is : x ≡ w ^ m % p
+  pub small : x < p
+  pub others : (k : ℕ) → 1 ≤ k → k < m → w ^ k % p ≡ 1 → ⊥
+
+module _ (p n w : ℕ) where
+  pub lower-start : 1 ≤ n → w < p → Lower p n w w 1
+  lower-start pos l = record { from = omega arith; to = pos; power-is = power-first p w l; small = l; others = λ k low high. absurd (omega arith) }
+
+  module _ (x m : ℕ) (l : Lower p n w x m) where
+    -- no power up to w^m is 1
+    pub lower-turn : (y : ℕ) → m < n → (x ≡ 1 → ⊥) → y ≡ x * w % p → y < p → Lower p n w y (m + 1)
+    lower-turn y more apart e small =
+        record {
+          from = omega arith;
+          to = omega arith;
+          power-is = power-next p w m x y (l .power-is) e;
+          small = small;
+          others = λ k low high f. ⊎-elim (λ s. apart (l .power-is ∙ ap (λ j. w ^ j % p) (sym s) ∙ f)) (λ less. l .others k low less f) (eq-or-lt-of-le (below k high));
+        }
+      where
+        below : (k : ℕ) → k < m + 1 → k ≤ m
+        below k h = omega arith
+
+    pub lower-found : m < n → x ≡ 1 → Decides false (OrderModulo p n w)
+    lower-found less e = record { if-true = λ f. absurd (false≢true f); if-false = λ _ o. o .1 m (l .from) less (sym (l .power-is) ∙ e) }
+
+    pub lower-end : n ≤ m → Decides (eqb x 1) (OrderModulo p n w)
+    lower-end h =
+        let same : m ≡ n = omega (arith, l .to) in
+        let value : w ^ n % p ≡ x = ap (λ j. w ^ j % p) (sym same) ∙ sym (l .power-is) in
+        record {
+          if-true = λ t. (value ∙ eqb-true x 1 t, λ k low high. l .others k low (omega arith));
+          if-false = λ f o. eqb-false x 1 f (sym value ∙ o .0);
+        }
+
+pub record Tried (p n g : ℕ) : Type 0 where
+  pub from : 1 ≤ g
+  pub to : g < p
+  pub others : (j : ℕ) → 1 ≤ j → j < g → OrderModulo p n (j ^ ((p - 1) / n) % p) → ⊥
+
+module _ (p n : ℕ) (h : Admissible p n) where
+  pub tried-start : Tried p n 1
+  tried-start = record { from = omega arith; to = h .prime .0; others = λ j low high. absurd (omega arith) }
+
+  module _ (g w : ℕ) (value : w ≡ g ^ ((p - 1) / n) % p) (r : Bool) (answer : Decides r (OrderModulo p n w)) where
+    -- some j is still to come
+    pub tried-turn : Tried p n g → not r ≡ true → Tried p n (g + 1)
+    tried-turn t no-order =
+        let (j, low, high, o) = generator-exists h in
+        let past : j ≤ g → ⊥ = λ l. passed j low l o in
+        record { from = omega arith; to = omega arith; others = λ i low' high'. passed i low' (omega arith) }
+      where
+        passed : (i : ℕ) → 1 ≤ i → i ≤ g → OrderModulo p n (i ^ ((p - 1) / n) % p) → ⊥
+        passed i low l o =
+            ⊎-elim (λ s. answer .if-false (not-true r no-order) (subst (OrderModulo p n) (ap (λ x. x ^ ((p - 1) / n) % p) s ∙ sym value) o)) (λ less. t .others i low less o)
+            (eq-or-lt-of-le l)
+
+    pub tried-end : not r ≡ false → OrderModulo p n (g ^ ((p - 1) / n) % p)
+    tried-end order = subst (OrderModulo p n) value (answer .if-true (not-false r order))
+
+pub record Kept (p n w least x k : ℕ) : Type 0 where
+  pub from : 1 ≤ k
+  pub to : k ≤ n
+  pub base-small : w < p
+  pub base-order : OrderModulo p n w
+  pub power-is : x ≡ w ^ k % p
+  pub small : x < p
+  pub least-small : least < p
+  pub least-order : OrderModulo p n least
+  pub least-is : (j : ℕ) → 1 ≤ j → j ≤ k → OrderModulo p n (w ^ j % p) → least ≤ w ^ j % p
+
+module _ (p n w : ℕ) where
+  pub kept-start : 1 ≤ n → w < p → (v : ℕ) → w ≡ v → OrderModulo p n v → Kept p n w w w 1
+  kept-start pos l v same ov =
+      let o : OrderModulo p n w = subst (OrderModulo p n) (sym same) ov in
+      record {
+        from = omega arith;
+        to = pos;
+        base-small = l;
+        base-order = o;
+        power-is = power-first p w l;
+        small = l;
+        least-small = l;
+        least-order = o;
+        least-is = λ j low high _. let e : j ≡ 1 = omega arith in let f : w ≡ w ^ j % p = power-first p w l ∙ ap (λ i. w ^ i % p) (sym e) in omega arith;
+      }
+
+  module _ (least x k : ℕ) (kept : Kept p n w least x k) where
+    module _ (y : ℕ) (more : k < n) (step : y ≡ x * w % p) (small : y < p) where
+      -- the next power is y, and `next` is the smallest so far
+      kept-next : (next : ℕ) → next < p → OrderModulo p n next → next ≤ least → (OrderModulo p n y → next ≤ y) → Kept p n w next y (k + 1)
+      kept-next next l o below-least below =
+          record {
+            from = omega arith;
+            to = omega arith;
+            base-small = kept .base-small;
+            base-order = kept .base-order;
+            power-is = value;
+            small = small;
+            least-small = l;
+            least-order = o;
+            least-is = λ j low high oj.
+                ⊎-elim (λ e. last j e oj) (λ less. let h : least ≤ w ^ j % p = kept .least-is j low (earlier j less) oj in omega arith)
+                (eq-or-lt-of-le high);
+          }
+        where
+          value : y ≡ w ^ (k + 1) % p
+          value = power-next p w k x y (kept .power-is) step
+
+          earlier : (j : ℕ) → j < k + 1 → j ≤ k
+          earlier j h = omega arith
+
+          last : (j : ℕ) → j ≡ k + 1 → OrderModulo p n (w ^ j % p) → next ≤ w ^ j % p
+          last j e oj = let f : w ^ j % p ≡ y = ap (λ i. w ^ i % p) e ∙ sym value in let h : next ≤ y = below (subst (OrderModulo p n) f oj) in omega arith
+
+      kept-same : (next : ℕ) → next ≡ least → (OrderModulo p n y → least ≤ y) → Kept p n w next y (k + 1)
+      kept-same next e below = rw e (kept-next least (kept .least-small) (kept .least-order) (omega arith) below)
+
+      pub kept-above : (next : ℕ) → next ≡ least → least ≤ y → Kept p n w next y (k + 1)
+      kept-above next e h = kept-same next e (λ _. h)
+
+      module _ (less : y < least) (r : Bool) (answer : Decides r (OrderModulo p n y)) where
+        pub kept-lower : (next : ℕ) → next ≡ y → r ≡ true → Kept p n w next y (k + 1)
+        kept-lower next e t = rw e (kept-next y small (answer .if-true t) (omega arith) (λ _. omega arith))
+
+        pub kept-other : (next : ℕ) → next ≡ least → r ≡ false → Kept p n w next y (k + 1)
+        kept-other next e f = kept-same next e (λ o. absurd (answer .if-false f o))
+
+    -- every element of order n is one of the powers w, w², …, w^n
+    pub kept-end : Admissible p n → n ≤ k → least ≡ zeta p n
+    kept-end h all = smallest-unique (OrderModulo p n) p least (zeta p n) (positive, kept .least-small, kept .least-order, none) (zeta-is p n (h .prime) (h .low) (h .high) (h .divides))
+      where
+        positive : 1 ≤ least
+        positive = order-positive p n (h .prime) (h .low) least (kept .least-order)
+
+        none : (j : ℕ) → 1 ≤ j → j < least → OrderModulo p n j → ⊥
+        none j low less o =
+            let (i, from, to, e) = unity-is-power h w j (kept .base-small) (kept .base-order) (omega (arith, kept .least-small)) (o .0) in
+            let l : least ≤ w ^ i % p = kept .least-is i from (omega arith) (subst (OrderModulo p n) e o) in
+            omega arith

@@ -1,0 +1,156 @@
+-- The loops of `root`: the bounds of the numbers from which a candidate is made, the scan for a solution of c^n·a2 = a1, and the least of the
+-- multiples of a solution by the powers of ζ.
+--   Scanned p n a1 a2 c             1 ≤ c < p, and no j with 1 ≤ j < c is a solution
+--   Least p n z a1 a2 y least x k   x = y·z^(k − 1) and `least`, the smallest of the y·z^j with j < k, are solutions
+use mathlib.Core.Path.{_≡_, refl, sym, ap, subst, _∙_}
+use mathlib.Core.Bool.{Bool, true, false, not}
+use mathlib.Core.Logic.{⊎-elim}
+use Prim.Native.Nat.{ℕ, zero, suc, _+_, _-_, _*_, _/_, _%_, _^_, _≤_, _<_}
+use native.Mathlib.Nat.{mod-eq-of-lt, pow-zero, pow-suc, eq-or-lt-of-le, div-lt-self, div-le-self, div-add-mod', pos-of-ne-zero, mul-one, mul-assoc}
+use native.Mathlib.Numerals.{add-one}
+use native.Mathlib.Omega.{arith}
+use lib.Dec.{eqb}
+use borrow.Author.Tests.{eqb-true, eqb-false, not-true, not-false}
+use Rattle.algebra.proofs.Modulo.{mod-mul-mod}
+use Rattle.finder.specs.Finder.{ratio}
+use Rattle.finder.specs.Root.{Admissible, OrderModulo, Solvable}
+use Rattle.finder.specs.Theorem.{Smallest}
+use Rattle.finder.proofs.Ratio.{ratio-positive}
+use Rattle.finder.proofs.RootsOfUnity.{ratio-times, ratio-is-multiple}
+use Rattle.finder.proofs.Smallest.{smallest-unique}
+
+-- r / q for a divisor q of r
+pub quotient-positive : (r q : ℕ) → 1 ≤ r → eqb (r % q) 0 ≡ true → 1 ≤ r / q
+quotient-positive r q pos h =
+    let e : r % q ≡ 0 = eqb-true (r % q) 0 h in
+    pos-of-ne-zero (λ z. let f : 0 * q + 0 ≡ r = ap (λ x. x * q + 0) (sym z) ∙ ap (λ x. r / q * q + x) (sym e) ∙ div-add-mod' r q in omega arith)
+
+pub quotient-less : (r q b : ℕ) → 1 ≤ r → 2 ≤ q → r / q + b < r + b
+quotient-less r q b pos big = let l : r / q < r = div-lt-self pos big in omega arith
+
+pub quotient-small : (r q m : ℕ) → r ≤ m → r / q ≤ m
+quotient-small r q m l = omega (arith, div-le-self r q)
+
+module _ (p n : ℕ) (h : Admissible p n) where
+  -- (p − 1)/n
+  pub index-positive : 1 ≤ (p - 1) / n
+  index-positive =
+      pos-of-ne-zero (λ z. let f : 0 * n + 0 ≡ p - 1 = ap (λ x. x * n + 0) (sym z) ∙ ap (λ x. (p - 1) / n * n + x) (sym (h .divides)) ∙ div-add-mod' (p - 1) n in omega (arith, h .prime .0))
+
+  pub index-small : (p - 1) / n ≤ 1048576
+  index-small = omega (arith, div-le-self (p - 1) n, h .small)
+
+pub solves-test : (p n a1 a2 c x y : ℕ) → x ≡ c ^ n % p → y ≡ x * a2 % p → eqb y a1 ≡ eqb (c ^ n * a2 % p) a1
+solves-test p n a1 a2 c x y ex ey = ap (λ k. eqb k a1) (ey ∙ ap (λ k. k * a2 % p) ex ∙ mod-mul-mod (c ^ n) p a2)
+
+pub record Scanned (p n a1 a2 c : ℕ) : Type 0 where
+  pub from : 1 ≤ c
+  pub to : c < p
+  pub others : (j : ℕ) → 1 ≤ j → j < c → j ^ n * a2 % p ≡ a1 → ⊥
+
+module _ (p n a1 a2 : ℕ) where
+  pub scan-start : 2 ≤ p → Scanned p n a1 a2 1
+  scan-start big = record { from = omega arith; to = big; others = λ j low high. absurd (omega arith) }
+
+  module _ (c : ℕ) (r : Bool) (answer : r ≡ eqb (c ^ n * a2 % p) a1) where
+    -- the smallest solution is still to come
+    pub scan-turn : Solvable p n a1 a2 → Scanned p n a1 a2 c → not r ≡ true → Scanned p n a1 a2 (c + 1)
+    scan-turn h s e =
+        let (low, high, solution, _) = h .smallest in
+        let past : ratio p n a1 a2 ≤ c → ⊥ = λ l. passed (ratio p n a1 a2) low l solution in
+        record { from = omega arith; to = omega arith; others = λ j low' high'. passed j low' (omega arith) }
+      where
+        passed : (j : ℕ) → 1 ≤ j → j ≤ c → j ^ n * a2 % p ≡ a1 → ⊥
+        passed j low l f =
+            ⊎-elim (λ s. eqb-false (c ^ n * a2 % p) a1 (sym answer ∙ not-true r e) (ap (λ x. x ^ n * a2 % p) (sym s) ∙ f)) (λ less. s .others j low less f)
+            (eq-or-lt-of-le l)
+
+    pub scan-end : not r ≡ false → c ^ n * a2 % p ≡ a1
+    scan-end e = eqb-true (c ^ n * a2 % p) a1 (sym answer ∙ not-false r e)
+
+    pub candidate-solves : r ≡ true → c ^ n * a2 % p ≡ a1
+    candidate-solves e = eqb-true (c ^ n * a2 % p) a1 (sym answer ∙ e)
+
+pub record Least (p n z a1 a2 y least x k : ℕ) : Type 0 where
+  pub from : 1 ≤ k
+  pub to : k ≤ n
+  pub base-small : y < p
+  pub base-solves : y ^ n * a2 % p ≡ a1
+  pub small : x < p
+  pub solves : x ^ n * a2 % p ≡ a1
+  pub next-is : x * z % p ≡ y * z ^ k % p
+  pub least-small : least < p
+  pub least-solves : least ^ n * a2 % p ≡ a1
+  pub least-is : (j : ℕ) → j < k → least ≤ y * z ^ j % p
+
+module _ (p n z a1 a2 : ℕ) where
+  multiple-one : (y : ℕ) → y < p → y ≡ y * z ^ 0 % p
+  multiple-one y l = sym (mod-eq-of-lt l) ∙ ap (λ x. x % p) (sym (ap (λ x. y * x) (pow-zero z) ∙ mul-one y))
+
+  next-power : (y k v : ℕ) → v ≡ y * z ^ k % p → v * z % p ≡ y * z ^ (k + 1) % p
+  next-power y k v e =
+      ap (λ x. x * z % p) e ∙ mod-mul-mod (y * z ^ k) p z ∙ ap (λ x. x % p) (mul-assoc y (z ^ k) z ∙ ap (λ x. y * x) (sym (pow-suc z k) ∙ ap (λ i. z ^ i) (sym (add-one k))))
+
+  pub least-start : (y : ℕ) → 1 ≤ n → y < p → y ^ n * a2 % p ≡ a1 → Least p n z a1 a2 y y y 1
+  least-start y pos l e =
+      record {
+        from = omega arith;
+        to = pos;
+        base-small = l;
+        base-solves = e;
+        small = l;
+        solves = e;
+        next-is = ap (λ x. x * z % p) (multiple-one y l) ∙ next-power y 0 (y * z ^ 0 % p) refl;
+        least-small = l;
+        least-solves = e;
+        least-is = λ j h. let f : j ≡ 0 = omega arith in let g : y ≡ y * z ^ j % p = multiple-one y l ∙ ap (λ i. y * z ^ i % p) (sym f) in omega arith;
+      }
+
+  module _ (y least x k : ℕ) (l : Least p n z a1 a2 y least x k) where
+    module _ (h : Admissible p n) (s : Solvable p n a1 a2) (small-z : z < p) (order : OrderModulo p n z) where
+      module _ (v : ℕ) (more : k < n) (step : v ≡ x * z % p) (small : v < p) where
+        v-solves : v ^ n * a2 % p ≡ a1
+        v-solves = ap (λ i. i ^ n * a2 % p) step ∙ ratio-times h a1 a2 (s .positive1) (s .below1) (s .below2) z x small-z (order .0) (l .small) (l .solves)
+
+        least-next : (next : ℕ) → next < p → next ^ n * a2 % p ≡ a1 → next ≤ least → next ≤ v → Least p n z a1 a2 y next v (k + 1)
+        least-next next below solves below-least below-next =
+            record {
+              from = omega arith;
+              to = omega arith;
+              base-small = l .base-small;
+              base-solves = l .base-solves;
+              small = small;
+              solves = v-solves;
+              next-is = next-power y k v value;
+              least-small = below;
+              least-solves = solves;
+              least-is = λ j less. ⊎-elim (λ e. last j e) (λ lt. let g : least ≤ y * z ^ j % p = l .least-is j lt in omega arith) (eq-or-lt-of-le (earlier j less));
+            }
+          where
+            value : v ≡ y * z ^ k % p
+            value = step ∙ l .next-is
+
+            earlier : (j : ℕ) → j < k + 1 → j ≤ k
+            earlier j g = omega arith
+
+            last : (j : ℕ) → j ≡ k → next ≤ y * z ^ j % p
+            last j e = let f : v ≡ y * z ^ j % p = value ∙ ap (λ i. y * z ^ i % p) (sym e) in omega arith
+
+        pub least-lower : (next : ℕ) → next ≡ v → v < least → Least p n z a1 a2 y next v (k + 1)
+        least-lower next e g = rw e (least-next v small v-solves (omega arith) (omega arith))
+
+        pub least-same : (next : ℕ) → next ≡ least → least ≤ v → Least p n z a1 a2 y next v (k + 1)
+        least-same next e g = rw e (least-next least (l .least-small) (l .least-solves) (omega arith) g)
+
+      -- every solution is y·z^j for some j < n
+      pub least-end : n ≤ k → least ≡ ratio p n a1 a2
+      least-end all = smallest-unique (λ c. c ^ n * a2 % p ≡ a1) p least (ratio p n a1 a2) (positive, l .least-small, l .least-solves, none) (s .smallest)
+        where
+          positive : 1 ≤ least
+          positive = ratio-positive p n a1 a2 (h .low) (s .positive1) least (l .least-solves)
+
+          none : (j : ℕ) → 1 ≤ j → j < least → j ^ n * a2 % p ≡ a1 → ⊥
+          none j low less f =
+              let (i, to, e) = ratio-is-multiple h a1 a2 (s .positive1) (s .below1) (s .below2) z y j small-z order (l .base-small) (l .base-solves) (omega (arith, l .least-small)) f in
+              let g : least ≤ y * z ^ i % p = l .least-is i (omega arith) in
+              omega arith

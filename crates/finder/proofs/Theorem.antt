@@ -1,0 +1,116 @@
+-- The proof of demand 3, as specs/Theorem.antt states it. The checker's half is the theorem of the crate pair. The finder's answer is 0 exactly when
+-- none of its refusals applies; for two models and n that divides p − 1 only 6 and 7 are left, which test for proper divisors. Without those the
+-- searches find the chosen pair, it satisfies the congruences, and the checker accepts it.
+--   Returned p n t1 t2   what the answer 0 says of two models
+use mathlib.Core.Path.{_≡_, refl, sym, ap, ap₂, subst₂}
+use mathlib.Core.Bool.{false, not, _&&_}
+use mathlib.Core.List.{List, [], _∷_}
+use Prim.Native.Nat.{ℕ, zero, suc, _-_, _%_}
+use native.Mathlib.Omega.{arith}
+use lib.Dec.{eqb}
+use lib.ListN.{length}
+use borrow.Author.Tests.{eqb-true, eq-eqb, not-false}
+use Rattle.algebra.specs.Lists.{all}
+use Rattle.modular.specs.Refusal.{badPrime, badDegree, badLength, badWord, written}
+use Rattle.pair.specs.Pair.{checkNumber}
+use Rattle.pair.proofs.Theorem.{checker-theorem}
+use Rattle.quotient.specs.Divisor.{HasDivisor}
+use Rattle.quotient.specs.DivisorTest.{hasDivisor}
+use Rattle.quotient.proofs.Refusal as Refusal
+use Rattle.quotient.proofs.Words.{words-length}
+use Rattle.finder.specs.Finder.{findS, findR, findNumber, findOutputS, findOutputR}
+use Rattle.finder.specs.Theorem.{ChosenPair, Models, Demand3Theorem}
+use Rattle.finder.proofs.ChosenPair.{chosen-words, chosen-congruences, chosen-unique, found-chosen}
+use Rattle.finder.proofs.Values.{test-irreducible, irreducible-test}
+
+record Returned (p n : ℕ) (t1 t2 : List ℕ) : Type 0 where
+  divides : (p - 1) % n ≡ 0
+  irreducible1 : HasDivisor p t1 → ⊥
+  irreducible2 : HasDivisor p t2 → ⊥
+
+module _ (p n : ℕ) (t1 t2 : List ℕ) (models : Models p n t1 t2) (lentS lentR : List ℕ) where
+  returned : findNumber p n t1 t2 lentS lentR ≡ 0 → Returned p n t1 t2
+  unfolding findNumber
+  returned h =
+      let (e1, h2) = Refusal.refuse-none 0 (badPrime p) _ h in
+      let (e2, h3) = Refusal.refuse-none 1 (badDegree n) _ h2 in
+      let (e3, h4) = Refusal.refuse-none 2 (badLength n (t1 ∷ t2 ∷ lentS ∷ lentR ∷ [])) _ h3 in
+      let (e4, h5) = Refusal.refuse-none 3 (badWord p (t1 ∷ t2 ∷ [])) _ h4 in
+      let (e5, h6) = Refusal.refuse-none 4 (not (eqb ((p - 1) % n) 0)) _ h5 in
+      let (e6, h7) = Refusal.refuse-none 5 (hasDivisor p t1) _ h6 in
+      let (e7, end) = Refusal.refuse-none 6 (hasDivisor p t2) 0 h7 in
+      record {
+        divides = eqb-true ((p - 1) % n) 0 (not-false (eqb ((p - 1) % n) 0) e5);
+        irreducible1 = test-irreducible p (models .prime) (models .modulus1) e6;
+        irreducible2 = test-irreducible p (models .prime) (models .modulus2) e7;
+      }
+
+  lengths-given : length lentS ≡ n → length lentR ≡ n → badLength n (t1 ∷ t2 ∷ lentS ∷ lentR ∷ []) ≡ false
+  unfolding badLength all
+  lengths-given lengthS lengthR =
+      ap not
+      (ap₂ _&&_ (eq-eqb (length t1) n (words-length (models .modulus1)))
+      (ap₂ _&&_ (eq-eqb (length t2) n (words-length (models .modulus2))) (ap₂ _&&_ (eq-eqb (length lentS) n lengthS) (ap₂ _&&_ (eq-eqb (length lentR) n lengthR) refl))))
+
+  returns : length lentS ≡ n → length lentR ≡ n → (p - 1) % n ≡ 0 → (HasDivisor p t1 → ⊥) → (HasDivisor p t2 → ⊥) → findNumber p n t1 t2 lentS lentR ≡ 0
+  unfolding findNumber
+  returns lengthS lengthR divides irreducible1 irreducible2 =
+      rw (
+        Refusal.given-prime p (models .prime) (models .small),
+        Refusal.given-degree n (models .degree .0) (models .degree .1),
+        lengths-given lengthS lengthR,
+        Refusal.given-words p n (t1 ∷ t2 ∷ []) (models .modulus1, (models .modulus2, tt)),
+        eq-eqb ((p - 1) % n) 0 divides,
+        irreducible-test p (models .prime) (models .modulus1) irreducible1,
+        irreducible-test p (models .prime) (models .modulus2) irreducible2,
+      )
+
+-- the pair that is found is chosen, and the checker accepts it
+found-accepted : (p n : ℕ) (t1 t2 : List ℕ) → Models p n t1 t2 → (p - 1) % n ≡ 0 → (HasDivisor p t1 → ⊥) → (HasDivisor p t2 → ⊥)
+    → ChosenPair p n t1 t2 (findS p n t1 t2) (findR p n t1 t2) × (checkNumber p n t1 t2 (findS p n t1 t2) (findR p n t1 t2) ≡ 0)
+found-accepted p zero t1 t2 models divides irreducible1 irreducible2 = absurd (omega (arith, models .degree))
+found-accepted p (suc n) t1 t2 models divides irreducible1 irreducible2 =
+    let h : ChosenPair p (suc n) t1 t2 (findS p (suc n) t1 t2) (findR p (suc n) t1 t2) =
+    found-chosen (models .prime) (models .degree .1) divides (models .modulus1) (models .modulus2) irreducible1 irreducible2 in (
+      h,
+      checker-theorem p (suc n) t1 t2 (findS p (suc n) t1 t2) (findR p (suc n) t1 t2) .1
+          record {
+            prime = models .prime;
+            small = models .small;
+            degree = models .degree;
+            modulus1 = models .modulus1;
+            modulus2 = models .modulus2;
+            words-s = chosen-words (models .prime) (models .modulus1) (models .modulus2) h;
+            words-r = h .r-is .0;
+          }
+          (chosen-congruences (models .prime) (models .modulus1) (models .modulus2) h),
+    )
+
+one-pair : (p n : ℕ) (t1 t2 : List ℕ) → Models p n t1 t2 → (s r s' r' : List ℕ) → ChosenPair p n t1 t2 s r → ChosenPair p n t1 t2 s' r' → (s ≡ s') × (r ≡ r')
+one-pair p zero t1 t2 models s r s' r' h h' = absurd (omega (arith, models .degree))
+one-pair p (suc n) t1 t2 models s r s' r' h h' = chosen-unique (models .prime) (models .modulus1) (models .modulus2) h h'
+
+-- where the number is 0 the lent lists hold what is found
+module _ (p n : ℕ) (t1 t2 lentS lentR : List ℕ) (zero-number : findNumber p n t1 t2 lentS lentR ≡ 0) where
+  output-s : findOutputS p n t1 t2 lentS lentR ≡ findS p n t1 t2
+  unfolding findOutputS
+  output-s = ap (λ k. written k (findS p n t1 t2) lentS) zero-number
+
+  output-r : findOutputR p n t1 t2 lentS lentR ≡ findR p n t1 t2
+  unfolding findOutputR
+  output-r = ap (λ k. written k (findR p n t1 t2) lentR) zero-number
+
+pub demand-3 : Demand3Theorem
+demand-3 p n t1 t2 models =
+    record {
+      accepted = λ s r h. checker-theorem p n t1 t2 s r .0 h .2;
+      returns = λ divides lentS lentR lengthS lengthR. (
+        λ h. let c : Returned p n t1 t2 = returned p n t1 t2 models lentS lentR h in (c .irreducible1, c .irreducible2),
+        λ i. returns p n t1 t2 models lentS lentR lengthS lengthR divides (i .0) (i .1),
+      );
+      found = λ lentS lentR h.
+          let c : Returned p n t1 t2 = returned p n t1 t2 models lentS lentR h in
+          subst₂ (λ s r. ChosenPair p n t1 t2 s r × (checkNumber p n t1 t2 s r ≡ 0)) (sym (output-s p n t1 t2 lentS lentR h)) (sym (output-r p n t1 t2 lentS lentR h))
+          (found-accepted p n t1 t2 models (c .divides) (c .irreducible1) (c .irreducible2));
+      only-one = one-pair p n t1 t2 models;
+    }

@@ -1,0 +1,95 @@
+// The finder on arrays of 16 words: Algorithm 2.1 with the choices of document 01.
+ghost use mathlib.Core.Path.{_≡_};
+ghost use Prim.Native.Nat.{_^_, _≤_};
+ghost use lib.ListN.{take};
+ghost use Rattle.algebra.specs.Prime.{Prime};
+ghost use Rattle.residue.specs.Array.{padded, Holds};
+ghost use Rattle.finder.specs.Construct.{Eigenvectors, FoundPair};
+ghost use Rattle.finder.specs.Finder.{findS};
+ghost use Rattle.finder.specs.Root.{Admissible};
+
+use crate::frobenius::eigenvector;
+use crate::root::ratio;
+use crate::system::express;
+use crate::unity::zeta;
+use crate::vector::scale;
+use residue::ring::substitute;
+
+// S = P1(c·α2) modulo T2, with P1(α1) = X modulo T1 and c^n·a2 = a1.
+fn forward(p: u64, n: usize, z: u64, t1: &[u64; 16], t2: &[u64; 16], alpha1: &[u64; 16], alpha2: &[u64; 16], a1: u64, a2: u64) -> [u64; 16]
+    requires { ⌜ Admissible p n ⌝ }
+    requires { ⌜ Holds p n (now t1) × Holds p n (now t2) ⌝ }
+    requires { ⌜ Eigenvectors p n (take n (now t1)) (take n (now t2)) z (now alpha1) (now alpha2) a1 a2 ⌝ }
+    ensures { λ s. ⌜ s ≡ padded (findS p n (take n (now (t1 .entry))) (take n (now (t2 .entry)))) ⌝ }
+{
+    let c = ratio(p, n as u64, z, a1, a2);
+    let p1 = express(p, n, t1, alpha1);
+    let gamma = scale(p, n, c, alpha2);
+    substitute(p, n, t2, &gamma, &p1)
+}
+
+// The number 5, 6 or 7 of a refusal, or 0 with S and R.
+pub struct Found {
+    pub number: u32,
+    pub forward: [u64; 16],
+    pub backward: [u64; 16],
+}
+
+// The pair from the two eigenvectors. R is the one polynomial with R(S) = X modulo T2.
+fn pair(p: u64, n: usize, z: u64, t1: &[u64; 16], t2: &[u64; 16], alpha1: &[u64; 16], alpha2: &[u64; 16], a1: u64, a2: u64) -> Found
+    requires { ⌜ Admissible p n ⌝ }
+    requires { ⌜ Holds p n (now t1) × Holds p n (now t2) ⌝ }
+    requires { ⌜ Eigenvectors p n (take n (now t1)) (take n (now t2)) z (now alpha1) (now alpha2) a1 a2 ⌝ }
+    ensures { λ r. ⌜ FoundPair p n (take n (now (t1 .entry))) (take n (now (t2 .entry))) (r .number) (r .forward) (r .backward) ⌝ }
+{
+    let s = forward(p, n, z, t1, t2, alpha1, alpha2, a1, a2);
+    Found {
+        number: 0,
+        forward: s,
+        backward: express(p, n, t2, &s),
+    }
+}
+
+// A refusal.
+fn refusal(number: u32) -> Found
+    ensures { λ r. ⌜ r .number ≡ number ⌝ }
+{
+    Found {
+        number: number,
+        forward: [0; 16],
+        backward: [0; 16],
+    }
+}
+
+// S and R for the two models, or the refusal of a modulus with a monic divisor of degree 1 to n − 1.
+fn construct(p: u64, n: usize, t1: &[u64; 16], t2: &[u64; 16]) -> Found
+    requires { ⌜ Admissible p n ⌝ }
+    requires { ⌜ Holds p n (now t1) × Holds p n (now t2) ⌝ }
+    ensures { λ r. ⌜ FoundPair p n (take n (now (t1 .entry))) (take n (now (t2 .entry))) (r .number) (r .forward) (r .backward) ⌝ }
+{
+    let z = zeta(p, n as u64);
+    let first = eigenvector(p, n, z, t1);
+    if !first.found {
+        return refusal(6);
+    }
+    let second = eigenvector(p, n, z, t2);
+    if !second.found {
+        return refusal(7);
+    }
+    let alpha1 = first.vector;
+    let alpha2 = second.vector;
+    pair(p, n, z, t1, t2, &alpha1, &alpha2, first.constant, second.constant)
+}
+
+// The same where n need not divide p − 1.
+pub fn find_pair(p: u64, n: usize, t1: &[u64; 16], t2: &[u64; 16]) -> Found
+    requires { ⌜ Prime p ⌝ }
+    requires { ⌜ (p ≤ 2 ^ 20) × (1 ≤ n) × (n ≤ 16) ⌝ }
+    requires { ⌜ Holds p n (now t1) × Holds p n (now t2) ⌝ }
+    ensures { λ r. ⌜ FoundPair p n (take n (now (t1 .entry))) (take n (now (t2 .entry))) (r .number) (r .forward) (r .backward) ⌝ }
+{
+    if (p - 1) % (n as u64) != 0 {
+        return refusal(5);
+    }
+    construct(p, n, t1, t2)
+}

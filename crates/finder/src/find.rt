@@ -1,0 +1,66 @@
+// The public call: lists are lent, nothing is required, and each refusal has its number. On a refusal the two lists lent for S and R are as found.
+ghost use mathlib.Core.List.{[], _∷_};
+ghost use mathlib.Core.Path.{_≡_};
+ghost use lib.ListN.{length};
+ghost use Rattle.modular.specs.Refusal.{refuse, badPrime, badDegree, badLength, badWord, written};
+ghost use Rattle.finder.specs.Construct.{pairNumber, FoundPair};
+ghost use Rattle.finder.specs.Finder.{findS, findR, findNumber, findOutputS, findOutputR};
+ghost use Rattle.finder.specs.Theorem.{Models};
+
+use crate::construct::{find_pair, Found};
+use modular::prime::is_prime;
+use residue::array::{load, store};
+use residue::refusal::{bad_degree, bad_length, bad_word, first};
+
+// The number of the first refusal from 1 to 4 that applies, 0 where none does.
+fn refusal(p: u32, n: u32, t1: &[u16], t2: &[u16], s: &[u16], r: &[u16]) -> u32
+    ensures { λ number. ⌜ number ≡ refuse 1 (badPrime p) (refuse 2 (badDegree n)
+        (refuse 3 (badLength n (now (t1 .entry) ∷ now (t2 .entry) ∷ now (s .entry) ∷ now (r .entry) ∷ []))
+        (refuse 4 (badWord p (now (t1 .entry) ∷ now (t2 .entry) ∷ [])) 0))) ⌝ }
+{
+    first(
+        !is_prime(p),
+        bad_degree(n),
+        bad_length(n, t2, s, r, t1),
+        bad_word(p, t1, t2, t2),
+    )
+}
+
+// The answer on lists to which none of the refusals 1 to 4 applies.
+fn answer(p: u32, n: u32, t1: &[u16], t2: &[u16]) -> Found
+    requires { ⌜ Models p n (now t1) (now t2) ⌝ }
+    ensures { λ r. ⌜ FoundPair p n (now (t1 .entry)) (now (t2 .entry)) (r .number) (r .forward) (r .backward) ⌝ }
+{
+    find_pair(p as u64, n as usize, &load(t1), &load(t2))
+}
+
+// Writes the pair, if there is one, for lists to which none of the refusals 1 to 4 applies.
+fn write_pair(p: u32, n: u32, t1: &[u16], t2: &[u16], s: &mut [u16], r: &mut [u16]) -> u32
+    requires { ⌜ Models p n (now t1) (now t2) ⌝ }
+    requires { ⌜ (length (now s) ≡ n) × (length (now r) ≡ n) ⌝ }
+    ensures { λ number. ⌜ number ≡ pairNumber p n (now (t1 .entry)) (now (t2 .entry)) ⌝ }
+    ensures { λ number. ⌜ now (s .exit) ≡ written number (findS p n (now (t1 .entry)) (now (t2 .entry))) (now (s .entry)) ⌝ }
+    ensures { λ number. ⌜ now (r .exit) ≡ written number (findR p n (now (t1 .entry)) (now (t2 .entry))) (now (r .entry)) ⌝ }
+{
+    let found = answer(p, n, t1, t2);
+    if found.number == 0 {
+        let forward = found.forward;
+        let backward = found.backward;
+        store(&forward, s);
+        store(&backward, r);
+    }
+    found.number
+}
+
+// The pair of Algorithm 2.1 for the models p, n, T1 and p, n, T2, with the choices of document 01: S into s and R into r.
+pub fn find(p: u32, n: u32, t1: &[u16], t2: &[u16], s: &mut [u16], r: &mut [u16]) -> u32
+    ensures { λ number. ⌜ number ≡ findNumber p n (now (t1 .entry)) (now (t2 .entry)) (now (s .entry)) (now (r .entry)) ⌝ }
+    ensures { λ _. ⌜ now (s .exit) ≡ findOutputS p n (now (t1 .entry)) (now (t2 .entry)) (now (s .entry)) (now (r .entry)) ⌝ }
+    ensures { λ _. ⌜ now (r .exit) ≡ findOutputR p n (now (t1 .entry)) (now (t2 .entry)) (now (s .entry)) (now (r .entry)) ⌝ }
+{
+    let number = refusal(p, n, t1, t2, s, r);
+    if number != 0 {
+        return number;
+    }
+    write_pair(p, n, t1, t2, s, r)
+}

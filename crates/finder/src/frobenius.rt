@@ -1,0 +1,76 @@
+// The eigenvector α of the p-th power, α^p = ζ·α modulo T, by the kernel of the linear map u ↦ u^p − ζ·u. It also decides whether T has a monic
+// divisor of degree 1 to n − 1: exactly then there is no such vector, or its n-th power is not a constant.
+ghost use mathlib.Core.Path.{_≡_};
+ghost use Prim.Native.Nat.{_^_, _≤_, _<_};
+ghost use lib.ListN.{take};
+ghost use Rattle.algebra.specs.Prime.{Prime};
+ghost use Rattle.linear.specs.System.{Square};
+ghost use Rattle.residue.specs.Array.{Holds};
+ghost use Rattle.finder.specs.Kernel.{Shifted, Kernel, Answer};
+ghost use Rattle.finder.specs.Root.{Admissible, OrderModulo};
+
+use crate::system::columns;
+use crate::vector::{is_constant, normalise};
+use linear::system::{solve, Solution};
+use modular::word::sub;
+use residue::ring::{power, power_of_x};
+use residue::table::powers;
+
+// The matrix m − z.
+fn minus(p: u64, n: usize, z: u64, m: [u64; 256]) -> [u64; 256]
+    requires { ⌜ (p ≤ 2 ^ 20) × (n ≤ 16) × (z < p) ⌝ }
+    requires { ⌜ Square p n m ⌝ }
+    ensures { λ r. ⌜ Shifted p n z m r ⌝ }
+{
+    let mut r = m;
+    let mut i = 0;
+    while i < n {
+        let k = 16 * i + i;
+        r[k] = sub(p, r[k], z);
+        i += 1;
+    }
+    r
+}
+
+// The kernel of u ↦ u^p − z·u: u^p is u(X^p), so the powers of X^p are the columns of u ↦ u^p.
+fn kernel(p: u64, n: usize, z: u64, t: &[u64; 16]) -> Solution
+    requires { ⌜ Prime p ⌝ }
+    requires { ⌜ (p ≤ 2 ^ 20) × (1 ≤ n) × (n ≤ 16) × (z < p) ⌝ }
+    requires { ⌜ Holds p n (now t) ⌝ }
+    ensures { λ r. ⌜ Kernel p n (take n (now (t .entry))) z (r .regular) (r .vector) ⌝ }
+{
+    let x = power_of_x(p, n, t);
+    let m = minus(p, n, z, columns(&powers(p, n, t, &x)));
+    solve(p, n, m, [0; 16])
+}
+
+// Whether T has no monic divisor of degree 1 to n − 1; and then α, and the constant α^n.
+pub struct Alpha {
+    pub found: bool,
+    pub vector: [u64; 16],
+    pub constant: u64,
+}
+
+pub fn eigenvector(p: u64, n: usize, z: u64, t: &[u64; 16]) -> Alpha
+    requires { ⌜ Admissible p n ⌝ }
+    requires { ⌜ (z < p) × OrderModulo p n z ⌝ }
+    requires { ⌜ Holds p n (now t) ⌝ }
+    ensures { λ r. ⌜ Answer p n (take n (now (t .entry))) z (r .found) (r .vector) (r .constant) ⌝ }
+{
+    let answer = kernel(p, n, z, t);
+    if answer.regular {
+        return Alpha {
+            found: false,
+            vector: [0; 16],
+            constant: 0,
+        };
+    }
+    let v = answer.vector;
+    let alpha = normalise(p, n, &v);
+    let power = power(p, n, t, &alpha, n as u64);
+    Alpha {
+        found: is_constant(p, n, &power),
+        vector: alpha,
+        constant: power[0],
+    }
+}

@@ -1,0 +1,109 @@
+// The smallest c with c^n·a2 = a1 modulo a prime p, where n divides p − 1: one solution, times the n-th roots of unity, and the least of these.
+ghost use mathlib.Core.Path.{_≡_};
+ghost use Prim.Native.Nat.{_*_, _%_, _^_, _≤_, _<_};
+ghost use lib.Dec.{eqb};
+ghost use Rattle.finder.specs.Finder.{ratio as ratioOf};
+ghost use Rattle.finder.specs.Root.{Admissible, OrderModulo, Solvable};
+
+use crate::unity::generator;
+use modular::word::{inverse, mul, power};
+
+// m without the primes that it shares with n.
+fn coprime_part(m: u64, n: u64) -> u64
+    requires { ⌜ (1 ≤ m) × (m ≤ 1048576) × (n ≤ 16) ⌝ }
+    ensures { λ r. ⌜ (1 ≤ r) × (r ≤ 1048576) ⌝ }
+{
+    let mut r = m;
+    let mut q = 2;
+    while q <= n {
+        if n % q == 0 && r % q == 0 {
+            r = r / q;
+        } else {
+            q += 1;
+        }
+    }
+    r
+}
+
+// The inverse of n modulo m, for m prime to n: (1 + k·m)/n for the one k below n that makes it whole.
+fn inverse_of_degree(m: u64, n: u64) -> u64
+    requires { ⌜ (m ≤ 1048576) × (1 ≤ n) × (n ≤ 16) ⌝ }
+{
+    let mut x = 1;
+    let mut k = 0;
+    while k < n {
+        if x % n == 0 {
+            return x / n;
+        }
+        x += m;
+        k += 1;
+    }
+    0
+}
+
+// A number that is tried as a solution y of y^n = b. With p − 1 = n·m·d, m prime to n and every prime of d one of n, and r the inverse of n
+// modulo m, b^r is a solution up to a power of h = g^m, which has order n·d.
+fn candidate(p: u64, n: u64, b: u64) -> u64
+    requires { ⌜ Admissible p n ⌝ }
+    requires { ⌜ b < p ⌝ }
+    ensures { λ y. ⌜ y < p ⌝ }
+{
+    let k = (p - 1) / n;
+    let m = coprime_part(k, n);
+    let h = power(p, generator(p, n), m);
+    let f = power(p, h, n);
+    let mut y = power(p, b, inverse_of_degree(m, n));
+    let mut x = power(p, y, n);
+    let mut j = k / m;
+    while j > 0 && x != b {
+        y = mul(p, y, h);
+        x = mul(p, x, f);
+        j -= 1;
+    }
+    y
+}
+
+// Whether c^n·a2 = a1.
+fn solves(p: u64, n: u64, a1: u64, a2: u64, c: u64) -> bool
+    requires { ⌜ (0 < p) × (p ≤ 1048576) × (a2 < p) × (c < p) ⌝ }
+    ensures { λ r. ⌜ r ≡ eqb (c ^ n * a2 % p) a1 ⌝ }
+{
+    mul(p, power(p, c, n), a2) == a1
+}
+
+// Some c with c^n·a2 = a1: the candidate, or else the first that a scan finds.
+fn solution(p: u64, n: u64, a1: u64, a2: u64) -> u64
+    requires { ⌜ Admissible p n ⌝ }
+    requires { ⌜ Solvable p n a1 a2 ⌝ }
+    ensures { λ c. ⌜ (c < p) × (c ^ n * a2 % p ≡ a1) ⌝ }
+{
+    let y = candidate(p, n, mul(p, a1, inverse(p, a2)));
+    if solves(p, n, a1, a2, y) {
+        return y;
+    }
+    let mut c = 1;
+    while !solves(p, n, a1, a2, c) {
+        c += 1;
+    }
+    c
+}
+
+// The smallest c with c^n·a2 = a1, given ζ.
+pub fn ratio(p: u64, n: u64, z: u64, a1: u64, a2: u64) -> u64
+    requires { ⌜ Admissible p n ⌝ }
+    requires { ⌜ (z < p) × OrderModulo p n z ⌝ }
+    requires { ⌜ Solvable p n a1 a2 ⌝ }
+    ensures { λ r. ⌜ (r ≡ ratioOf p n a1 a2) × (r < p) ⌝ }
+{
+    let mut x = solution(p, n, a1, a2);
+    let mut least = x;
+    let mut k = 1;
+    while k < n {
+        x = mul(p, x, z);
+        if x < least {
+            least = x;
+        }
+        k += 1;
+    }
+    least
+}
