@@ -1,0 +1,37 @@
+// The reader and the writer of cards.
+ghost use mathlib.Core.Path.{_≡_};
+ghost use Rattle.card.specs.Card.{readNumber, readPrime, readDegree, readKind, readOutput, writeNumber, writeOutput};
+
+// The reader's answer.
+#[repr(C)]
+pub struct CardValue {
+    pub number: u32,
+    pub p: u32,
+    pub n: u32,
+    pub kind: u32,
+}
+
+#[no_mangle]
+pub extern "C" fn yokebean_read_card(bytes: &[u8], words: &mut [u16]) -> CardValue
+    ensures { λ r. ⌜ r .number ≡ readNumber (now (bytes .entry)) (now (words .entry)) ⌝ }
+    ensures { λ r. ⌜ r .p ≡ readPrime (now (bytes .entry)) (now (words .entry)) ⌝ }
+    ensures { λ r. ⌜ r .n ≡ readDegree (now (bytes .entry)) (now (words .entry)) ⌝ }
+    ensures { λ r. ⌜ r .kind ≡ readKind (now (bytes .entry)) (now (words .entry)) ⌝ }
+    ensures { λ r. ⌜ now (words .exit) ≡ readOutput (now (bytes .entry)) (now (words .entry)) ⌝ }
+{
+    let found = card::reader::read(bytes, words);
+    CardValue {
+        number: found.number,
+        p: found.p,
+        n: found.n,
+        kind: found.kind,
+    }
+}
+
+#[no_mangle]
+pub extern "C" fn yokebean_write_card(p: u32, n: u32, kind: u32, words: &[u16], bytes: &mut [u8]) -> u32
+    ensures { λ k. ⌜ k ≡ writeNumber p n kind (now (words .entry)) (now (bytes .entry)) ⌝ }
+    ensures { λ k. ⌜ now (bytes .exit) ≡ writeOutput p n kind (now (words .entry)) (now (bytes .entry)) ⌝ }
+{
+    card::writer::write(p, n, kind, words, bytes)
+}
