@@ -1,0 +1,106 @@
+/* Yokebean: isomorphisms of finite fields, proved.
+ *
+ * A model is a prime p up to 65,535, a degree n from 1 to 16 and a modulus T = X^n + t[n-1] X^(n-1) + ... + t[0], passed as the n words t[0] to
+ * t[n-1], each below p; the leading 1 is not passed. A residue is n words below p, constant first.
+ *
+ * Every call takes any numbers and any lists; a list is a pointer to its words and their number. A call gives 0, or the number of the first
+ * refusal that applies in the order listed with it, and then every list holds what it held and every other field of the answer is 0, save
+ * that a session call gives back the session it took:
+ *    1  p is below 2, above 65,535 or not prime
+ *    2  n is not 1 to 16
+ *    3  a list of coefficients, read or written, or a card's output list has the wrong length
+ *    4  a coefficient is p or more
+ *    5  n does not divide p - 1
+ *    6  T1 has a monic divisor of degree 1 to n - 1
+ *    7  T2 has one
+ *    8  one of the congruences T1(S) = 0 mod T2, T2(R) = 0 mod T1, S(R) = X mod T1, R(S) = X mod T2 fails
+ *    9  words to convert: above 32,768 or not a multiple of n
+ *   10  output length differs from input length
+ *   11  card under 3 bytes, or not of its exact length
+ *   12  kind is neither 1 nor 2
+ *   13  a fill bit is 1
+ *   21  the session is empty        22  it is loaded without a pair
+ *   23  it is not empty             24  it is paired
+ *
+ * Lists: each pointer must point to as many words as its length says (a list of length 0 may have any pointer that is not null and is
+ * aligned), and a list that a call writes must not overlap any other list of the same call.
+ */
+#ifndef YOKEBEAN_H
+#define YOKEBEAN_H
+
+#include <stddef.h>
+#include <stdint.h>
+
+#ifdef __cplusplus
+extern "C" {
+#endif
+
+/* Whether S and R are inverse isomorphisms of the models T1 and T2: u -> u(S) mod T2 and u -> u(R) mod T1. 1, 2, 3, 4, 8. */
+uint32_t yokebean_check(uint32_t p, uint32_t n, const uint16_t *t1, size_t t1_len, const uint16_t *t2, size_t t2_len,
+                        const uint16_t *s, size_t s_len, const uint16_t *r, size_t r_len);
+
+/* Writes the pair of Allombert's Algorithm 2.1 into s_out and r_out, two lists of n words. 1 to 7. */
+uint32_t yokebean_find(uint32_t p, uint32_t n, const uint16_t *t1, size_t t1_len, const uint16_t *t2, size_t t2_len,
+                       uint16_t *s_out, size_t s_len, uint16_t *r_out, size_t r_len);
+
+/* out := u(S) modulo T. 1 to 4. */
+uint32_t yokebean_substitute(uint32_t p, uint32_t n, const uint16_t *t, size_t t_len, const uint16_t *s, size_t s_len,
+                             const uint16_t *u, size_t u_len, uint16_t *out, size_t out_len);
+
+/* out := u·v modulo T. 1 to 4. */
+uint32_t yokebean_product(uint32_t p, uint32_t n, const uint16_t *t, size_t t_len, const uint16_t *u, size_t u_len,
+                          const uint16_t *v, size_t v_len, uint16_t *out, size_t out_len);
+
+/* out := u^k modulo T. 1 to 4. */
+uint32_t yokebean_power(uint32_t p, uint32_t n, const uint16_t *t, size_t t_len, const uint16_t *u, size_t u_len,
+                        uint64_t k, uint16_t *out, size_t out_len);
+
+/* A card's answer: kind 1 is a job (T1, T2), kind 2 a pair (T1, T2, S, R). */
+typedef struct {
+    uint32_t number, p, n, kind;
+} yokebean_card;
+
+/* Reads a card; its coefficients go into the first places of 64 lent words, the rest become 0. 3, 11, 1, 12, 11, 13, 4. */
+yokebean_card yokebean_read_card(const uint8_t *card, size_t card_len, uint16_t *words, size_t words_len);
+
+/* Writes a card of 2n (kind 1) or 4n (kind 2) coefficients into a list of exactly its length, at most 131 bytes. 1, 2, 12, 3, 4. */
+uint32_t yokebean_write_card(uint32_t p, uint32_t n, uint32_t kind, const uint16_t *words, size_t words_len, uint8_t *card, size_t card_len);
+
+/* A session's value: state 0 is empty, 1 loaded (p, n, t1, t2), 2 paired (also s, r); the first n words of each array count. A value with
+ * another state, or with a p, n or coefficient that 1, 2 or 4 refuses, counts as a new one. */
+typedef struct {
+    uint32_t state, p, n;
+    uint16_t t1[16], t2[16], s[16], r[16];
+} yokebean_session;
+
+/* A session call's answer. */
+typedef struct {
+    uint32_t number;
+    yokebean_session session;
+} yokebean_step;
+
+/* A new session is empty. */
+yokebean_session yokebean_new(void);
+
+/* Empty to loaded. 23, 1 to 4. */
+yokebean_step yokebean_load(yokebean_session session, uint32_t p, uint32_t n, const uint16_t *t1, size_t t1_len,
+                            const uint16_t *t2, size_t t2_len);
+
+/* Loaded to paired, if the checker accepts. 21, 24, 3, 4, 8. */
+yokebean_step yokebean_propose(yokebean_session session, const uint16_t *s, size_t s_len, const uint16_t *r, size_t r_len);
+
+/* Loaded to paired, with the finder's pair. 21, 24, 5, 6, 7. */
+yokebean_step yokebean_find_pair(yokebean_session session);
+
+/* Converts a table of residues, group of n words by group: forward u -> u(S) mod T2, back u -> u(R) mod T1. 21, 22, 9, 10, 4. */
+yokebean_step yokebean_forward(yokebean_session session, const uint16_t *in, size_t in_len, uint16_t *out, size_t out_len);
+yokebean_step yokebean_back(yokebean_session session, const uint16_t *in, size_t in_len, uint16_t *out, size_t out_len);
+
+/* Any state to empty; never refused. */
+yokebean_step yokebean_clear(yokebean_session session);
+
+#ifdef __cplusplus
+}
+#endif
+
+#endif

@@ -1,0 +1,52 @@
+//! The calls of include/yokebean.h, as C has them.
+
+type Words = *const u16;
+type Lent = *mut u16;
+
+/// A card's answer.
+#[repr(C)]
+#[derive(Clone, Copy, Debug, PartialEq, Eq)]
+pub struct Card {
+    pub number: u32,
+    pub p: u32,
+    pub n: u32,
+    pub kind: u32,
+}
+
+/// A session's value: state 0 empty, 1 loaded, 2 paired; the first n words of each array count.
+#[repr(C)]
+#[derive(Clone, Copy, Debug, PartialEq, Eq)]
+pub struct Session {
+    pub state: u32,
+    pub p: u32,
+    pub n: u32,
+    pub t1: [u16; 16],
+    pub t2: [u16; 16],
+    pub s: [u16; 16],
+    pub r: [u16; 16],
+}
+
+/// A session call's answer.
+#[repr(C)]
+#[derive(Clone, Copy, Debug, PartialEq, Eq)]
+pub struct Step {
+    pub number: u32,
+    pub session: Session,
+}
+
+extern "C" {
+    pub fn yokebean_substitute(p: u32, n: u32, t: Words, t_len: usize, s: Words, s_len: usize, u: Words, u_len: usize, out: Lent, out_len: usize) -> u32;
+    pub fn yokebean_product(p: u32, n: u32, t: Words, t_len: usize, u: Words, u_len: usize, v: Words, v_len: usize, out: Lent, out_len: usize) -> u32;
+    pub fn yokebean_power(p: u32, n: u32, t: Words, t_len: usize, u: Words, u_len: usize, k: u64, out: Lent, out_len: usize) -> u32;
+    pub fn yokebean_check(p: u32, n: u32, t1: Words, t1_len: usize, t2: Words, t2_len: usize, s: Words, s_len: usize, r: Words, r_len: usize) -> u32;
+    pub fn yokebean_find(p: u32, n: u32, t1: Words, t1_len: usize, t2: Words, t2_len: usize, s: Lent, s_len: usize, r: Lent, r_len: usize) -> u32;
+    pub fn yokebean_read_card(card: *const u8, card_len: usize, words: Lent, words_len: usize) -> Card;
+    pub fn yokebean_write_card(p: u32, n: u32, kind: u32, words: Words, words_len: usize, card: *mut u8, card_len: usize) -> u32;
+    pub fn yokebean_new() -> Session;
+    pub fn yokebean_load(session: Session, p: u32, n: u32, t1: Words, t1_len: usize, t2: Words, t2_len: usize) -> Step;
+    pub fn yokebean_propose(session: Session, s: Words, s_len: usize, r: Words, r_len: usize) -> Step;
+    pub fn yokebean_find_pair(session: Session) -> Step;
+    pub fn yokebean_forward(session: Session, table: Words, table_len: usize, out: Lent, out_len: usize) -> Step;
+    pub fn yokebean_back(session: Session, table: Words, table_len: usize, out: Lent, out_len: usize) -> Step;
+    pub fn yokebean_clear(session: Session) -> Step;
+}
