@@ -1,21 +1,34 @@
-//! The proved library's calls, with slices for pointers and lengths.
+//! The proved library as the tests see it: numbers for answers, and session calls with the session that is given back.
 
-mod c {
-    extern "C" {
-        pub fn yokebean_substitute(p: u32, n: u32, t: *const u16, tn: usize, s: *const u16, sn: usize, u: *const u16, un: usize, out: *mut u16, outn: usize) -> u32;
-        pub fn yokebean_product(p: u32, n: u32, t: *const u16, tn: usize, u: *const u16, un: usize, v: *const u16, vn: usize, out: *mut u16, outn: usize) -> u32;
-        pub fn yokebean_power(p: u32, n: u32, t: *const u16, tn: usize, u: *const u16, un: usize, k: u64, out: *mut u16, outn: usize) -> u32;
-    }
+pub use yokebean::raw::{Session, Step};
+use yokebean::{raw, Refusal};
+
+/// The number of an answer: 0 where it is accepted.
+pub fn number<T>(answer: Result<T, Refusal>) -> u32 {
+    answer.map_or_else(Refusal::number, |_| 0)
 }
 
-pub fn substitute(p: u32, n: u32, t: &[u16], s: &[u16], u: &[u16], out: &mut [u16]) -> u32 {
-    unsafe { c::yokebean_substitute(p, n, t.as_ptr(), t.len(), s.as_ptr(), s.len(), u.as_ptr(), u.len(), out.as_mut_ptr(), out.len()) }
+pub fn new() -> Session {
+    unsafe { raw::yokebean_new() }
 }
 
-pub fn product(p: u32, n: u32, t: &[u16], u: &[u16], v: &[u16], out: &mut [u16]) -> u32 {
-    unsafe { c::yokebean_product(p, n, t.as_ptr(), t.len(), u.as_ptr(), u.len(), v.as_ptr(), v.len(), out.as_mut_ptr(), out.len()) }
+pub fn load(session: Session, p: u32, n: u32, t1: &[u16], t2: &[u16]) -> Step {
+    unsafe { raw::yokebean_load(session, p, n, t1.as_ptr(), t1.len(), t2.as_ptr(), t2.len()) }
 }
 
-pub fn power(p: u32, n: u32, t: &[u16], u: &[u16], k: u64, out: &mut [u16]) -> u32 {
-    unsafe { c::yokebean_power(p, n, t.as_ptr(), t.len(), u.as_ptr(), u.len(), k, out.as_mut_ptr(), out.len()) }
+pub fn propose(session: Session, s: &[u16], r: &[u16]) -> Step {
+    unsafe { raw::yokebean_propose(session, s.as_ptr(), s.len(), r.as_ptr(), r.len()) }
+}
+
+pub fn find_pair(session: Session) -> Step {
+    unsafe { raw::yokebean_find_pair(session) }
+}
+
+pub fn convert(session: Session, forward: bool, table: &[u16], out: &mut [u16]) -> Step {
+    let call = if forward { raw::yokebean_forward } else { raw::yokebean_back };
+    unsafe { call(session, table.as_ptr(), table.len(), out.as_mut_ptr(), out.len()) }
+}
+
+pub fn clear(session: Session) -> Step {
+    unsafe { raw::yokebean_clear(session) }
 }

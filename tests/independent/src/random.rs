@@ -60,9 +60,9 @@ impl Random {
 
     /// A list of n words below p; of another length, or with a word of p or more, once in a while.
     pub fn words(&mut self, p: u32, n: u32, damaged: bool) -> Vec<u16> {
-        let mut length = n.min(20) as usize;
+        let mut length = n.min(64) as usize;
         if damaged && self.once_in(12) {
-            length = self.one_of(&[0, n.min(20).saturating_sub(1), n.min(20) + 1, 16, 17]) as usize;
+            length = self.one_of(&[0, n.min(64).saturating_sub(1), n.min(64) + 1, 16, 17]) as usize;
         }
         let top = p.clamp(1, 65_536) - 1;
         let style = self.below(6);

@@ -1,0 +1,63 @@
+//! The program `fieldcard`, run on cards of both kinds, damaged ones, refusals of each number that it can give, the longest card, no
+//! input and input that is too long.
+
+use super::Tally;
+use crate::document::card;
+use crate::random::Random;
+use std::io::Write;
+use std::process::{Command, Stdio};
+
+fn printed(input: &[u8]) -> String {
+    let program = concat!(env!("CARGO_MANIFEST_DIR"), "/../../target/bin/fieldcard");
+    let mut child = Command::new(program).stdin(Stdio::piped()).stdout(Stdio::piped()).spawn().expect("the program fieldcard");
+    // a program that has read enough may close its input first
+    let _ = child.stdin.take().unwrap().write_all(input);
+    String::from_utf8(child.wait_with_output().unwrap().stdout).unwrap()
+}
+
+fn compare(input: &[u8], tally: &mut Tally) {
+    let want = card::fieldcard(input);
+    let number = want.strip_prefix("REFUSED ").map_or(0, |word| word.trim().parse().unwrap());
+    tally.compare("fieldcard", number, &input, &printed(input), &want);
+}
+
+fn random_card(random: &mut Random) -> Vec<u8> {
+    let p = random.prime();
+    let divisors: Vec<u32> = (1..=16).filter(|n| (p - 1) % n == 0).collect();
+    let n = if random.once_in(5) { 1 + random.below(16) as u32 } else { divisors[random.below(divisors.len() as u64) as usize] };
+    let job = card::card(p, n, 1, &random.words(p, 2 * n, false));
+    let answer = card::fieldcard(&job);
+    let mut bytes = match answer.trim().strip_prefix("PAIR ") {
+        Some(pair) if random.once_in(2) => (0..pair.len() / 2).map(|k| u8::from_str_radix(&pair[2 * k..2 * k + 2], 16).unwrap()).collect(),
+        _ => job,
+    };
+    match random.below(6) {
+        0 => bytes.push(0),
+        1 => {
+            bytes.pop();
+        }
+        2 => {
+            let place = random.below(bytes.len() as u64) as usize;
+            bytes[place] ^= 1 << random.below(8);
+        }
+        _ => {}
+    }
+    bytes
+}
+
+pub fn run(rounds: u64, tally: &mut Tally) {
+    let random = &mut Random::new(0xbf58_476d_1ce4_e5b9);
+    compare(&[], tally);
+    compare(&[0x00, 0x03, 0x11, 0x49], tally);
+    compare(&[0x00, 0x03, 0x12, 0x49, 0x66], tally);
+    compare(&card::card(65_521, 16, 2, &[1; 64]), tally);
+    for length in [130, 131, 132, 133, 5000, 1 << 20] {
+        let mut long = card::card(65_521, 16, 2, &[0; 64]);
+        long.resize(length, 0);
+        compare(&long, tally);
+    }
+    for _ in 0..rounds {
+        let bytes = random_card(random);
+        compare(&bytes, tally);
+    }
+}

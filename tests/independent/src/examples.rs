@@ -1,0 +1,26 @@
+//! Examples A to J of document 01, on the independent implementation itself.
+
+use crate::document::{self, card, finder, is_prime, session::Session};
+
+pub fn hold() {
+    let pair = finder::pair(3, &[1, 0], &[2, 1]);
+    assert_eq!((pair.zeta, &pair.alpha1[..], &pair.alpha2[..], pair.c), (2, &[0, 1][..], &[1, 2][..], 1));
+    assert_eq!((&pair.s[..], &pair.r[..]), (&[1, 2][..], &[1, 2][..]));
+    assert_eq!(document::check(3, 2, &[1, 0], &[2, 1], &[2, 1], &[1, 1]), 0);
+    let session = Session::Empty.load(3, 2, &[1, 0], &[2, 1]).unwrap().find().unwrap();
+    assert_eq!(session.convert(true, &[1, 1], 2), Ok(vec![2, 2]));
+    assert_eq!(session.convert(false, &[2, 2], 2), Ok(vec![1, 1]));
+    let pair = finder::pair(7, &[5, 0, 0], &[4, 0, 0]);
+    assert_eq!((pair.zeta, &pair.alpha1[..], &pair.alpha2[..], pair.a1, pair.a2, pair.c), (2, &[0, 0, 1][..], &[0, 1, 0][..], 4, 3, 3));
+    assert_eq!((&pair.s[..], &pair.r[..]), (&[0, 0, 1][..], &[0, 0, 5][..]));
+    assert_eq!(document::find(2, 1, &[1], &[0], &[0], &[0]), (0, vec![1], vec![0]));
+    assert_eq!(document::check(3, 2, &[0, 0], &[0, 0], &[0, 1], &[0, 1]), 0);
+    assert_eq!(document::find(3, 2, &[0, 0], &[0, 0], &[9, 9], &[9, 9]).0, 6);
+    assert_eq!(document::find(3, 2, &[2, 0], &[1, 0], &[9, 9], &[9, 9]).0, 6);
+    assert_eq!(document::find(3, 2, &[1, 0], &[2, 0], &[9, 9], &[9, 9]).0, 7);
+    assert_eq!(document::find(5, 3, &[1, 0, 0], &[1, 0, 0], &[0; 3], &[0; 3]).0, 5);
+    assert_eq!(card::card(3, 2, 2, &[1, 0, 2, 1, 1, 2, 1, 2]), [0x00, 0x03, 0x12, 0x49, 0x66]);
+    assert_eq!(card::card(7, 3, 1, &[5, 0, 0, 4, 0, 0]), [0x00, 0x07, 0x21, 0xA0, 0x40, 0x00]);
+    assert_eq!(card::fieldcard(&[0x00, 0x03, 0x11, 0x49]), "PAIR 0003124966\n");
+    assert!(is_prime(65_521) && !is_prime(65_535) && !is_prime(65_537));
+}
