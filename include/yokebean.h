@@ -35,7 +35,7 @@
 extern "C" {
 #endif
 
-/* Whether S and R are inverse isomorphisms of the models T1 and T2: u -> u(S) mod T2 and u -> u(R) mod T1. 1, 2, 3, 4, 8. */
+/* Whether the four congruences hold; then u -> u(S) mod T2 and u -> u(R) mod T1 are inverse isomorphisms. 1, 2, 3, 4, 8. */
 uint32_t yokebean_check(uint32_t p, uint32_t n, const uint16_t *t1, size_t t1_len, const uint16_t *t2, size_t t2_len,
                         const uint16_t *s, size_t s_len, const uint16_t *r, size_t r_len);
 

@@ -15,7 +15,7 @@ module _ {p n : ℕ} {t q a : List ℕ} (big : 2 ≤ p) (wt : Words p (suc n) t)
   -- (M(P))(α) = M(P(α))
   substitute-modulusAt : {f : List ℕ} → Words p (suc n) f → (m : List ℕ) → substitute p t a (modulusAt p q f m) ≡ modulusAt p t (substitute p t a f) m
   substitute-modulusAt wf m =
-      preserves-modulusAt big wq wt (substitute p t a) (λ u wu. substitute-words big wt wa wu) (substitution-preserves big wq wt wa root) wf m
+      preserves-modulusAt big wq wt (substitute p t a) (substitution-preserves big wq wt wa root) wf m
 
   -- T(P) = 0 modulo Q
   relation : Independent p (suc n) t a → {f : List ℕ} → Words p (suc n) f → substitute p t a f ≡ residueOfX p t → modulusAt p q f t ≡ constant (suc n) 0

@@ -1,7 +1,7 @@
 -- The finder's values (document 01, "The finder"), each by search over what its sentence ranges over, in the order of the document.
 --   zeta p n            the smallest integer from 1 to p − 1 with ζ^n = 1 mod p and no ζ^m = 1 for 1 ≤ m < n
 --   alpha p t z         not zero, α^p = ζ·α modulo T, and its first coefficient that is not zero is 1
---   powerConstant p t a a^n modulo T, which is a constant
+--   powerConstant p t a the constant coefficient of a^n modulo T; α^n has no other
 --   ratio p n a1 a2     c, the smallest integer from 1 to p − 1 with c^n·a2 = a1 mod p
 --   express p t a       the polynomial P of degree below n with P(a) = X modulo T
 --   findS p n t1 t2     S = P1(c·α2) mod T2, with P1(α1) = X mod T1

@@ -18,9 +18,6 @@ use Rattle.pair.specs.Theorem.{Isomorphisms}
 
 module _ {p n : ℕ} {t1 t2 s r : List ℕ} (big : 2 ≤ p) (w1 : Words p (suc n) t1) (w2 : Words p (suc n) t2) (ws : Words p (suc n) s) (wr : Words p (suc n) r)
     (root : modulusAt p t2 s t1 ≡ constant (suc n) 0) (inverse : substitute p t2 s r ≡ residueOfX p t2) where
-  forward-words : (u : List ℕ) → Words p (suc n) u → Words p (suc n) (forward p t2 s u)
-  unfolding forward
-  forward-words u wu = Words.substitute-words big w2 ws wu
 
   backward-words : (u : List ℕ) → Words p (suc n) u → Words p (suc n) (backward p t1 r u)
   unfolding backward
@@ -54,7 +51,7 @@ module _ {p n : ℕ} {t1 t2 s r : List ℕ} (big : 2 ≤ p) (w1 : Words p (suc n
   unfolding forward
   root-of-t2 =
       forward-injective (Words.modulusAt-words big w1 wr w2) (Words.constant-words (suc n) (omega arith))
-      (Substitution.preserves-modulusAt big w1 w2 (forward p t2 s) forward-words forward-preserves wr t2 ∙ ap (λ x. modulusAt p t2 x t2) inverse
+      (Substitution.preserves-modulusAt big w1 w2 (forward p t2 s) forward-preserves wr t2 ∙ ap (λ x. modulusAt p t2 x t2) inverse
       ∙ Substitution.modulusAt-x big w2 ∙ sym (Substitution.zero-substitute big w2 ws (suc n)))
 
   s-of-r : substitute p t1 r s ≡ residueOfX p t1

@@ -58,7 +58,7 @@ fn accepted(p: u32, n: u32, t1: &[u16], t2: &[u16], s: &[u16], r: &[u16]) -> boo
     )
 }
 
-// 0 where S and R are inverse isomorphisms of the two models, else the number of the first refusal that applies.
+// 0 where the four congruences hold, and then the two maps are inverse isomorphisms; else the number of the first refusal that applies.
 pub fn check(p: u32, n: u32, t1: &[u16], t2: &[u16], s: &[u16], r: &[u16]) -> u32
     ensures { λ number. ⌜ number ≡ checkNumber p n (now (t1 .entry)) (now (t2 .entry)) (now (s .entry)) (now (r .entry)) ⌝ }
 {

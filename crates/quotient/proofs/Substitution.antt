@@ -1,7 +1,7 @@
 -- Substitution: u(S) is the value of u at S in the ring of residues. If T1(S) = 0 modulo T2, then u ↦ u(S) commutes with X, hence preserves
 -- products; a homomorphism takes u(S) to u of the image of S; and u(X) = u. So two substitutions with S(R) = X undo each other.
 --   Homomorphism R S f   f preserves sums, products and one
-use mathlib.Core.Path.{_≡_, refl, sym, ap, ap₂, _∙_}
+use mathlib.Core.Path.{subst, _≡_, refl, sym, ap, ap₂, _∙_}
 use mathlib.Core.List.{List, [], _∷_}
 use Prim.Native.Nat.{ℕ, zero, suc, _≤_}
 use lib.ListN.{length, replicate}
@@ -134,6 +134,9 @@ module _ {p m n : ℕ} {t1 t2 : List ℕ} (big : 2 ≤ p) (w1 : Words p m t1) (w
       → ((u : Residue p m) → f (u .0) ≡ φ u .0) → Preserves p t1 t2 f
   unfolding residueRing addResidue mulResidue oneResidue constantResidue
   homomorphism-preserves φ h is = record {
+    residues = λ u wu.
+        let a : Residue p m = (u, Words.of-length w1 wu) in
+        Words.to-length w2 (subst (Words p n) (sym (is a)) (φ a .1));
     sums = λ u v wu wv.
         let a : Residue p m = (u, Words.of-length w1 wu) in
         let b : Residue p m = (v, Words.of-length w1 wv) in
@@ -145,7 +148,10 @@ module _ {p m n : ℕ} {t1 t2 : List ℕ} (big : 2 ≤ p) (w1 : Words p m t1) (w
     one = rw (Words.words-length w1, Words.words-length w2) (is (oneResidue big) ∙ ap (λ x. x .0) (h .one));
   }
 
-  module _ (closed : (u : List ℕ) → Words p m u → Words p n (f u)) (h : Preserves p t1 t2 f) where
+  module _ (h : Preserves p t1 t2 f) where
+    closed : (u : List ℕ) → Words p m u → Words p n (f u)
+    closed u w = Words.of-length w2 (h .residues u (Words.to-length w1 w))
+
     preserves-homomorphism : Homomorphism (residueRing big w1) (residueRing big w2) (λ u. (f (u .0), closed (u .0) (u .1)))
     unfolding residueRing addResidue mulResidue oneResidue constantResidue
     preserves-homomorphism = record {
@@ -180,7 +186,7 @@ module _ {p m n : ℕ} {t1 t2 s : List ℕ} (big : 2 ≤ p) (w1 : Words p (suc m
   pub substitute-substitute : {r : List ℕ} → Words p (suc m) r → (u : List ℕ)
       → substitute p t2 s (substitute p t1 r u) ≡ substitute p t2 (substitute p t2 s r) u
   substitute-substitute w u =
-      preserves-substitute big w1 w2 (substitute p t2 s) (λ v wv. Words.substitute-words big w2 ws wv) substitution-preserves w u
+      preserves-substitute big w1 w2 (substitute p t2 s) substitution-preserves w u
 
   -- if R(S) = X modulo T2, then u ↦ u(S) undoes u ↦ u(R)
   pub substitution-undoes : {r : List ℕ} → Words p (suc m) r → substitute p t2 s r ≡ residueOfX p t2

@@ -116,7 +116,7 @@ pub fn power(size: Size, t: &[u16], u: &[u16], k: u64, out: &mut [u16]) -> Resul
     answer(number, ())
 }
 
-/// Whether S and R are inverse isomorphisms of the models T1 and T2.
+/// Whether the four congruences hold; then u ↦ u(S) mod T2 and u ↦ u(R) mod T1 are inverse isomorphisms.
 pub fn check(size: Size, t1: &[u16], t2: &[u16], s: &[u16], r: &[u16]) -> Result<(), Refusal> {
     let Size { p, n } = size;
     let number = unsafe {
