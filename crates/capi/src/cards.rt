@@ -29,7 +29,13 @@ pub extern "C" fn yokebean_read_card(bytes: &[u8], words: &mut [u16]) -> CardVal
 }
 
 #[no_mangle]
-pub extern "C" fn yokebean_write_card(p: u32, n: u32, kind: u32, words: &[u16], bytes: &mut [u8]) -> u32
+pub extern "C" fn yokebean_write_card(
+    p: u32,
+    n: u32,
+    kind: u32,
+    words: &[u16],
+    bytes: &mut [u8],
+) -> u32
     ensures { λ k. ⌜ k ≡ writeNumber p n kind (now (words .entry)) (now (bytes .entry)) ⌝ }
     ensures { λ k. ⌜ now (bytes .exit) ≡ writeOutput p n kind (now (words .entry)) (now (bytes .entry)) ⌝ }
 {

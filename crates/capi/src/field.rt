@@ -5,14 +5,28 @@ ghost use Rattle.pair.specs.Pair.{checkNumber};
 ghost use Rattle.residue.specs.Calls.{substituteNumber, substituteOutput, productNumber, productOutput, powerNumber, powerOutput};
 
 #[no_mangle]
-pub extern "C" fn yokebean_check(p: u32, n: u32, t1: &[u16], t2: &[u16], s: &[u16], r: &[u16]) -> u32
+pub extern "C" fn yokebean_check(
+    p: u32,
+    n: u32,
+    t1: &[u16],
+    t2: &[u16],
+    s: &[u16],
+    r: &[u16],
+) -> u32
     ensures { λ k. ⌜ k ≡ checkNumber p n (now (t1 .entry)) (now (t2 .entry)) (now (s .entry)) (now (r .entry)) ⌝ }
 {
     pair::checker::check(p, n, t1, t2, s, r)
 }
 
 #[no_mangle]
-pub extern "C" fn yokebean_find(p: u32, n: u32, t1: &[u16], t2: &[u16], s: &mut [u16], r: &mut [u16]) -> u32
+pub extern "C" fn yokebean_find(
+    p: u32,
+    n: u32,
+    t1: &[u16],
+    t2: &[u16],
+    s: &mut [u16],
+    r: &mut [u16],
+) -> u32
     ensures { λ k. ⌜ k ≡ findNumber p n (now (t1 .entry)) (now (t2 .entry)) (now (s .entry)) (now (r .entry)) ⌝ }
     ensures { λ k. ⌜ now (s .exit) ≡ findOutputS p n (now (t1 .entry)) (now (t2 .entry)) (now (s .entry)) (now (r .entry)) ⌝ }
     ensures { λ k. ⌜ now (r .exit) ≡ findOutputR p n (now (t1 .entry)) (now (t2 .entry)) (now (s .entry)) (now (r .entry)) ⌝ }
@@ -21,7 +35,14 @@ pub extern "C" fn yokebean_find(p: u32, n: u32, t1: &[u16], t2: &[u16], s: &mut 
 }
 
 #[no_mangle]
-pub extern "C" fn yokebean_substitute(p: u32, n: u32, t: &[u16], s: &[u16], u: &[u16], out: &mut [u16]) -> u32
+pub extern "C" fn yokebean_substitute(
+    p: u32,
+    n: u32,
+    t: &[u16],
+    s: &[u16],
+    u: &[u16],
+    out: &mut [u16],
+) -> u32
     ensures { λ k. ⌜ k ≡ substituteNumber p n (now (t .entry)) (now (s .entry)) (now (u .entry)) (now (out .entry)) ⌝ }
     ensures { λ k. ⌜ now (out .exit) ≡ substituteOutput p n (now (t .entry)) (now (s .entry)) (now (u .entry)) (now (out .entry)) ⌝ }
 {
@@ -29,7 +50,14 @@ pub extern "C" fn yokebean_substitute(p: u32, n: u32, t: &[u16], s: &[u16], u: &
 }
 
 #[no_mangle]
-pub extern "C" fn yokebean_product(p: u32, n: u32, t: &[u16], u: &[u16], v: &[u16], out: &mut [u16]) -> u32
+pub extern "C" fn yokebean_product(
+    p: u32,
+    n: u32,
+    t: &[u16],
+    u: &[u16],
+    v: &[u16],
+    out: &mut [u16],
+) -> u32
     ensures { λ k. ⌜ k ≡ productNumber p n (now (t .entry)) (now (u .entry)) (now (v .entry)) (now (out .entry)) ⌝ }
     ensures { λ k. ⌜ now (out .exit) ≡ productOutput p n (now (t .entry)) (now (u .entry)) (now (v .entry)) (now (out .entry)) ⌝ }
 {
@@ -37,7 +65,14 @@ pub extern "C" fn yokebean_product(p: u32, n: u32, t: &[u16], u: &[u16], v: &[u1
 }
 
 #[no_mangle]
-pub extern "C" fn yokebean_power(p: u32, n: u32, t: &[u16], u: &[u16], k: u64, out: &mut [u16]) -> u32
+pub extern "C" fn yokebean_power(
+    p: u32,
+    n: u32,
+    t: &[u16],
+    u: &[u16],
+    k: u64,
+    out: &mut [u16],
+) -> u32
     ensures { λ x. ⌜ x ≡ powerNumber p n (now (t .entry)) (now (u .entry)) (now (out .entry)) ⌝ }
     ensures { λ x. ⌜ now (out .exit) ≡ powerOutput p n (now (t .entry)) (now (u .entry)) k (now (out .entry)) ⌝ }
 {

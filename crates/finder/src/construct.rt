@@ -7,7 +7,6 @@ ghost use Rattle.residue.specs.Array.{padded, Holds};
 ghost use Rattle.finder.specs.Construct.{Eigenvectors, FoundPair};
 ghost use Rattle.finder.specs.Finder.{findS};
 ghost use Rattle.finder.specs.Root.{Admissible};
-
 use crate::frobenius::eigenvector;
 use crate::root::ratio;
 use crate::system::express;
@@ -16,7 +15,17 @@ use crate::vector::scale;
 use residue::ring::substitute;
 
 // S = P1(c·α2) modulo T2, with P1(α1) = X modulo T1 and c^n·a2 = a1.
-fn forward(p: u64, n: usize, z: u64, t1: &[u64; 16], t2: &[u64; 16], alpha1: &[u64; 16], alpha2: &[u64; 16], a1: u64, a2: u64) -> [u64; 16]
+fn forward(
+    p: u64,
+    n: usize,
+    z: u64,
+    t1: &[u64; 16],
+    t2: &[u64; 16],
+    alpha1: &[u64; 16],
+    alpha2: &[u64; 16],
+    a1: u64,
+    a2: u64,
+) -> [u64; 16]
     requires { ⌜ Admissible p n ⌝ }
     requires { ⌜ Holds p n (now t1) × Holds p n (now t2) ⌝ }
     requires { ⌜ Eigenvectors p n (take n (now t1)) (take n (now t2)) z (now alpha1) (now alpha2) a1 a2 ⌝ }
@@ -36,7 +45,17 @@ pub struct Found {
 }
 
 // The pair from the two eigenvectors. R is the one polynomial with R(S) = X modulo T2.
-fn pair(p: u64, n: usize, z: u64, t1: &[u64; 16], t2: &[u64; 16], alpha1: &[u64; 16], alpha2: &[u64; 16], a1: u64, a2: u64) -> Found
+fn pair(
+    p: u64,
+    n: usize,
+    z: u64,
+    t1: &[u64; 16],
+    t2: &[u64; 16],
+    alpha1: &[u64; 16],
+    alpha2: &[u64; 16],
+    a1: u64,
+    a2: u64,
+) -> Found
     requires { ⌜ Admissible p n ⌝ }
     requires { ⌜ Holds p n (now t1) × Holds p n (now t2) ⌝ }
     requires { ⌜ Eigenvectors p n (take n (now t1)) (take n (now t2)) z (now alpha1) (now alpha2) a1 a2 ⌝ }
@@ -78,7 +97,17 @@ fn construct(p: u64, n: usize, t1: &[u64; 16], t2: &[u64; 16]) -> Found
     }
     let alpha1 = first.vector;
     let alpha2 = second.vector;
-    pair(p, n, z, t1, t2, &alpha1, &alpha2, first.constant, second.constant)
+    pair(
+        p,
+        n,
+        z,
+        t1,
+        t2,
+        &alpha1,
+        &alpha2,
+        first.constant,
+        second.constant,
+    )
 }
 
 // The same where n need not divide p − 1.

@@ -6,11 +6,15 @@ ghost use Rattle.modular.specs.Refusal.{refuse, badPrime, badDegree, badLength,
 ghost use Rattle.finder.specs.Construct.{pairNumber, FoundPair};
 ghost use Rattle.finder.specs.Finder.{findS, findR, findNumber, findOutputS, findOutputR};
 ghost use Rattle.finder.specs.Theorem.{Models};
-
-use crate::construct::{find_pair, Found};
+use crate::construct::Found;
+use crate::construct::find_pair;
 use modular::prime::is_prime;
-use residue::array::{load, store};
-use residue::refusal::{bad_degree, bad_length, bad_word, first};
+use residue::array::load;
+use residue::array::store;
+use residue::refusal::bad_degree;
+use residue::refusal::bad_length;
+use residue::refusal::bad_word;
+use residue::refusal::first;
 
 // The number of the first refusal from 1 to 4 that applies, 0 where none does.
 fn refusal(p: u32, n: u32, t1: &[u16], t2: &[u16], s: &[u16], r: &[u16]) -> u32

@@ -8,12 +8,14 @@ ghost use Rattle.linear.specs.System.{Square};
 ghost use Rattle.residue.specs.Array.{Holds};
 ghost use Rattle.finder.specs.Kernel.{Shifted, Kernel, Answer};
 ghost use Rattle.finder.specs.Root.{Admissible, OrderModulo};
-
 use crate::system::columns;
-use crate::vector::{is_constant, normalise};
-use linear::system::{solve, Solution};
+use crate::vector::is_constant;
+use crate::vector::normalise;
+use linear::system::Solution;
+use linear::system::solve;
 use modular::word::sub;
-use residue::ring::{power, power_of_x};
+use residue::ring::power;
+use residue::ring::power_of_x;
 use residue::table::powers;
 
 // The matrix m − z.

@@ -1,8 +1,8 @@
 // The finder.
-pub mod unity;
-pub mod root;
-pub mod system;
-pub mod vector;
-pub mod frobenius;
 pub mod construct;
 pub mod find;
+pub mod frobenius;
+pub mod root;
+pub mod system;
+pub mod unity;
+pub mod vector;

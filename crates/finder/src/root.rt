@@ -4,9 +4,10 @@ ghost use Prim.Native.Nat.{_*_, _%_, _^_, _≤_, _<_};
 ghost use lib.Dec.{eqb};
 ghost use Rattle.finder.specs.Finder.{ratio as ratioOf};
 ghost use Rattle.finder.specs.Root.{Admissible, OrderModulo, Solvable};
-
 use crate::unity::generator;
-use modular::word::{inverse, mul, power};
+use modular::word::inverse;
+use modular::word::mul;
+use modular::word::power;
 
 // m without the primes that it shares with n.
 fn coprime_part(m: u64, n: u64) -> u64

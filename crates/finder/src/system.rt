@@ -6,7 +6,6 @@ ghost use Rattle.algebra.specs.Prime.{Prime};
 ghost use Rattle.residue.specs.Array.{padded, Holds};
 ghost use Rattle.finder.specs.Finder.{express as expressOf};
 ghost use Rattle.finder.specs.System.{Columns, Independent};
-
 use linear::system::solve;
 use residue::ring::residue_of_x;
 use residue::table::powers;

@@ -3,8 +3,8 @@ ghost use mathlib.Core.Path.{_≡_};
 ghost use Prim.Native.Nat.{_-_, _/_, _%_, _^_, _≤_, _<_};
 ghost use Rattle.finder.specs.Finder.{zeta as zetaOf};
 ghost use Rattle.finder.specs.Root.{Decides, Admissible, OrderModulo};
-
-use modular::word::{mul, power};
+use modular::word::mul;
+use modular::word::power;
 
 // Whether w has order n.
 fn has_order(p: u64, n: u64, w: u64) -> bool

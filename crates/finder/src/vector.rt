@@ -8,8 +8,8 @@ ghost use Rattle.quotient.specs.Residue.{scale as scaleOf, constant};
 ghost use Rattle.residue.specs.Array.{padded, Holds};
 ghost use Rattle.finder.specs.Finder.{leading as leadingOf};
 ghost use Rattle.finder.specs.Root.{Decides};
-
-use modular::word::{inverse, mul};
+use modular::word::inverse;
+use modular::word::mul;
 
 // c·u modulo p.
 pub fn scale(p: u64, n: usize, c: u64, u: &[u64; 16]) -> [u64; 16]

@@ -18,7 +18,6 @@ use Rattle.pair.specs.Theorem.{Isomorphisms}
 
 module _ {p n : ℕ} {t1 t2 s r : List ℕ} (big : 2 ≤ p) (w1 : Words p (suc n) t1) (w2 : Words p (suc n) t2) (ws : Words p (suc n) s) (wr : Words p (suc n) r)
     (root : modulusAt p t2 s t1 ≡ constant (suc n) 0) (inverse : substitute p t2 s r ≡ residueOfX p t2) where
-
   backward-words : (u : List ℕ) → Words p (suc n) u → Words p (suc n) (backward p t1 r u)
   unfolding backward
   backward-words u wu = Words.substitute-words big w1 wr wu

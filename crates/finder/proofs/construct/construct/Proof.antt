@@ -40,9 +40,14 @@ returns-2 c = search refused-second
 
 -- src/construct.rt:79:5
 pair-requires : tie.Need-pair-requires
-pair-requires c κs =
-    (search needs, (search needs, eigenvectors-are _ _ _ _ _ (c .before .before .before .before .before .before .before .before .before .before .before .pre .0) (c .before .before .before .before .before .before .before .before .before .before .zeta .ensures .0) _ _ _ (c .before .before .before .before .before .before .before .before .before .eigenvector .ensures) _ _ _
-    (c .before .before .before .before .before .before .eigenvector2 .ensures) (c .before .before .before .before .before .before .before .if1 .left) (c .before .before .before .before .if2 .left)))
+pair-requires c κs = (
+  search needs,
+  (
+    search needs,
+    eigenvectors-are _ _ _ _ _ (c .before .before .before .before .before .before .before .before .before .before .before .pre .0) (c .before .before .before .before .before .before .before .before .before .before .zeta .ensures .0) _ _ _ (c .before .before .before .before .before .before .before .before .before .eigenvector .ensures) _ _ _
+        (c .before .before .before .before .before .before .eigenvector2 .ensures) (c .before .before .before .before .before .before .before .if1 .left) (c .before .before .before .before .if2 .left),
+  ),
+)
 
 -- src/construct.rt:63:1
 returns-3 : tie.Need-returns-3

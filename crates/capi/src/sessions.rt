@@ -1,0 +1,102 @@
+// The session. A value with a state above 2 is one made otherwise and counts as new.
+use crate::value::session_of;
+use crate::value::step_of;
+ghost use mathlib.Core.Path.{_≡_};
+ghost use Rattle.capi.specs.Values.{sessionOf, valueOf, stepOf, convertedOf};
+ghost use Rattle.session.specs.Session.{newSession, load, propose, find, convert, forwardOutput, backOutput, clear};
+
+// A session's value: state 0 is empty, 1 loaded, 2 paired.
+#[repr(C)]
+pub struct SessionValue {
+    pub state: u32,
+    pub p: u32,
+    pub n: u32,
+    pub t1: [u16; 16],
+    pub t2: [u16; 16],
+    pub s: [u16; 16],
+    pub r: [u16; 16],
+}
+
+// A session call's answer.
+#[repr(C)]
+pub struct StepValue {
+    pub number: u32,
+    pub session: SessionValue,
+}
+
+#[no_mangle]
+pub extern "C" fn yokebean_new() -> SessionValue
+    ensures { λ r. ⌜ r ≡ valueOf newSession ⌝ }
+{
+    SessionValue {
+        state: 0,
+        p: 0,
+        n: 0,
+        t1: [0; 16],
+        t2: [0; 16],
+        s: [0; 16],
+        r: [0; 16],
+    }
+}
+
+#[no_mangle]
+pub extern "C" fn yokebean_load(
+    session: SessionValue,
+    p: u32,
+    n: u32,
+    t1: &[u16],
+    t2: &[u16],
+) -> StepValue
+    ensures { λ r. ⌜ r ≡ stepOf session (load (sessionOf session) p n (now (t1 .entry)) (now (t2 .entry))) ⌝ }
+{
+    step_of(session, session_of(session).load(p, n, t1, t2))
+}
+
+#[no_mangle]
+pub extern "C" fn yokebean_propose(session: SessionValue, s: &[u16], r: &[u16]) -> StepValue
+    ensures { λ k. ⌜ k ≡ stepOf session (propose (sessionOf session) (now (s .entry)) (now (r .entry))) ⌝ }
+{
+    step_of(session, session_of(session).propose(s, r))
+}
+
+#[no_mangle]
+pub extern "C" fn yokebean_find_pair(session: SessionValue) -> StepValue
+    ensures { λ r. ⌜ r ≡ stepOf session (find (sessionOf session)) ⌝ }
+{
+    step_of(session, session_of(session).find())
+}
+
+#[no_mangle]
+pub extern "C" fn yokebean_forward(
+    session: SessionValue,
+    table: &[u16],
+    out: &mut [u16],
+) -> StepValue
+    ensures { λ r. ⌜ r ≡ convertedOf session (convert (sessionOf session) (now (table .entry)) (now (out .entry))) ⌝ }
+    ensures { λ r. ⌜ now (out .exit) ≡ forwardOutput (sessionOf session) (now (table .entry)) (now (out .entry)) ⌝ }
+{
+    let step = session_of(session).forward(table, out);
+    StepValue {
+        number: step.number,
+        session: session,
+    }
+}
+
+#[no_mangle]
+pub extern "C" fn yokebean_back(session: SessionValue, table: &[u16], out: &mut [u16]) -> StepValue
+    ensures { λ r. ⌜ r ≡ convertedOf session (convert (sessionOf session) (now (table .entry)) (now (out .entry))) ⌝ }
+    ensures { λ r. ⌜ now (out .exit) ≡ backOutput (sessionOf session) (now (table .entry)) (now (out .entry)) ⌝ }
+{
+    let step = session_of(session).back(table, out);
+    StepValue {
+        number: step.number,
+        session: session,
+    }
+}
+
+#[no_mangle]
+pub extern "C" fn yokebean_clear(session: SessionValue) -> StepValue
+    ensures { λ r. ⌜ r ≡ stepOf session (clear (sessionOf session)) ⌝ }
+{
+    step_of(session, session_of(session).clear())
+}

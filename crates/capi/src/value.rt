@@ -1,0 +1,83 @@
+// Sessions to values with a number for the state, and back.
+use crate::sessions::SessionValue;
+use crate::sessions::StepValue;
+use session::Session;
+use session::State;
+use session::Step;
+ghost use mathlib.Core.Path.{_≡_};
+ghost use Rattle.capi.specs.Values.{stateOf, numberOf, sessionOf, valueOf, stepOf};
+
+fn state_of(number: u32) -> State
+    ensures { λ r. ⌜ r ≡ stateOf number ⌝ }
+{
+    match number {
+        1 => State::Loaded,
+        2 => State::Paired,
+        _ => State::Empty,
+    }
+}
+
+fn number_of(state: State) -> u32
+    ensures { λ r. ⌜ r ≡ numberOf state ⌝ }
+{
+    match state {
+        State::Empty => 0,
+        State::Loaded => 1,
+        State::Paired => 2,
+    }
+}
+
+pub fn session_of(v: SessionValue) -> Session
+    ensures { λ r. ⌜ r ≡ sessionOf v ⌝ }
+{
+    let t1 = v.t1;
+    let t2 = v.t2;
+    let s = v.s;
+    let r = v.r;
+    Session {
+        state: state_of(v.state),
+        p: v.p,
+        n: v.n,
+        t1: t1,
+        t2: t2,
+        s: s,
+        r: r,
+    }
+}
+
+fn value_of(x: Session) -> SessionValue
+    ensures { λ r. ⌜ r ≡ valueOf x ⌝ }
+{
+    let state = x.state;
+    let t1 = x.t1;
+    let t2 = x.t2;
+    let s = x.s;
+    let r = x.r;
+    SessionValue {
+        state: number_of(state),
+        p: x.p,
+        n: x.n,
+        t1: t1,
+        t2: t2,
+        s: s,
+        r: r,
+    }
+}
+
+// The answer of a call: refused, the value that was taken.
+pub fn step_of(v: SessionValue, step: Step) -> StepValue
+    ensures { λ r. ⌜ r ≡ stepOf v step ⌝ }
+{
+    let number = step.number;
+    if number != 0 {
+        return StepValue {
+            number: number,
+            session: v,
+        };
+    }
+    let next = step.session;
+    StepValue {
+        number: 0,
+        session: value_of(next),
+    }
+}

@@ -1,0 +1,109 @@
+-- Propose, by the tests of the code: in a loaded session 1 and 2 do not apply, nor 3 and 4 to its models, so that its number is the checker's.
+use mathlib.Core.Path.{_≡_, refl, sym, _∙_}
+use mathlib.Core.Bool.{true, false, not, _&&_, and-eq-true-iff}
+use mathlib.Core.List.{List, [], _∷_}
+use Prim.Native.Nat.{ℕ, _≤_}
+use native.Mathlib.Omega.{arith}
+use lib.Dec.{eqb}
+use lib.ListN.{length, take}
+use borrow.Author.Tests.{eqb-true, not-false}
+use Rattle.algebra.specs.Lists.{all}
+use Rattle.modular.specs.Refusal.{refuse, badLength, badWord}
+use Rattle.pair.specs.Pair.{accepts, checkNumber}
+use Rattle.quotient.proofs.Refusal.{refuse-none}
+use Rattle.residue.specs.Array.{padded}
+use Rattle.session.specs.Kind.{stateOf}
+use Rattle.session.specs.Session.{View, empty, loaded, paired, whole, view, pairedSession, answer, proposeFrom, propose}
+use Rattle.session.specs.declared.Session.{Session}
+use Rattle.session.specs.declared.State.{State}
+use Rattle.session.specs.declared.State.the-variants.{Empty, Loaded, Paired}
+use Rattle.session.proofs.Answer.{step-path, answer-number, answer-accepts}
+use Rattle.session.proofs.Seen.{empty-seen, loaded-seen, paired-seen}
+use Rattle.session.proofs.Whole.{whole-given, whole-degree, front-lengths, lengths-after, words-after}
+use Rattle.session.proofs.Unchanged.{refusal-changes-nothing}
+
+pub checks-pair : (p n k : ℕ) (t1 t2 s r : List ℕ) → length t1 ≡ 16 → length t2 ≡ 16 → whole p n (take n t1 ∷ take n t2 ∷ []) ≡ true
+    → k ≡ checkNumber p n (take n t1) (take n t2) s r
+    → k ≡ refuse 3 (badLength n (s ∷ r ∷ [])) (refuse 4 (badWord p (s ∷ r ∷ [])) (refuse 8 (not (accepts p (take n t1) (take n t2) s r)) 0))
+unfolding checkNumber
+checks-pair p n k t1 t2 s r l1 l2 h e =
+    let xss = take n t1 ∷ take n t2 ∷ [] in
+    let (prime, degree, words) = whole-given p n xss h in
+    e
+    ∙ rw (
+      prime,
+      degree,
+      lengths-after n (take n t1) (take n t2) (s ∷ r ∷ []) (front-lengths n t1 t2 (whole-degree p n xss h) l1 l2),
+      words-after p (take n t1) (take n t2) (s ∷ r ∷ []) words,
+    )
+
+two-lengths : (n : ℕ) (a b : List ℕ) → badLength n (a ∷ b ∷ []) ≡ false → (length a ≡ n) × (length b ≡ n)
+unfolding badLength all
+two-lengths n a b h =
+    let (first, rest) = and-eq-true-iff (eqb (length a) n) (eqb (length b) n && true) .0 (not-false (eqb (length a) n && (eqb (length b) n && true)) h) in
+    (eqb-true (length a) n first, eqb-true (length b) n (and-eq-true-iff (eqb (length b) n) true .0 rest .0))
+
+module _ (x : Session) (s r : List ℕ) where
+  -- the number, by the state of what the session counts as
+  module _ (state : State) (e : state ≡ stateOf (view x)) where
+    pub propose-empty : state ≡ Empty → 21 ≡ propose x s r .number
+    unfolding propose proposeFrom answer
+    propose-empty h = rw (empty-seen x state e h)
+
+    pub propose-paired : state ≡ Paired → 24 ≡ propose x s r .number
+    unfolding propose proposeFrom answer
+    propose-paired h = rw (paired-seen x state e h .0)
+
+    pub propose-loaded : state ≡ Loaded → (k : ℕ)
+        → k ≡ refuse 3 (badLength (x .n) (s ∷ r ∷ []))
+        (refuse 4 (badWord (x .p) (s ∷ r ∷ [])) (refuse 8 (not (accepts (x .p) (take (x .n) (x .t1)) (take (x .n) (x .t2)) s r)) 0))
+        → k ≡ propose x s r .number
+    unfolding propose proposeFrom
+    propose-loaded h k f =
+        rw (loaded-seen x state e h .0)
+        (f ∙ sym (answer-number _ x (pairedSession (x .p) (x .n) (take (x .n) (x .t1)) (take (x .n) (x .t2)) s r)))
+
+  module _ (k : ℕ) (e : k ≡ propose x s r .number) where
+    pub propose-refused : (k ≡ 0 → ⊥) → record { number = k; session = x } ≡ propose x s r
+    propose-refused h = step-path e (sym (refusal-changes-nothing x .propose-keeps s r (λ z. h (e ∙ z))))
+
+    module _ (h : k ≡ 0) where
+      is-loaded : Loaded ≡ stateOf (view x)
+      unfolding propose proposeFrom stateOf
+      is-loaded = go (view x) (sym e ∙ h)
+        where
+          go : (v : View) → proposeFrom v x s r .number ≡ 0 → Loaded ≡ stateOf v
+          go empty z = absurd (omega (arith, answer-number 21 x x))
+          go (loaded p n t1 t2) z = refl
+          go (paired p n t1 t2 u v) z = absurd (omega (arith, answer-number 24 x x))
+
+      pair-length : badLength (x .n) (s ∷ r ∷ []) ≡ false
+      unfolding propose proposeFrom
+      pair-length =
+          let z = rw (loaded-seen x Loaded is-loaded refl .0) at (sym e ∙ h) in
+          refuse-none 2 (badLength (x .n) (s ∷ r ∷ [])) _ (sym (answer-number _ x _) ∙ z) .0
+
+      session-is : propose x s r .session ≡ pairedSession (x .p) (x .n) (take (x .n) (x .t1)) (take (x .n) (x .t2)) s r
+      unfolding propose proposeFrom
+      session-is =
+          let z = rw (loaded-seen x Loaded is-loaded refl .0) at (sym e ∙ h) in
+          rw (loaded-seen x Loaded is-loaded refl .0) (answer-accepts _ x _ z)
+
+      pub degree-fits : x .n ≤ 16
+      degree-fits = whole-degree (x .p) (x .n) _ (loaded-seen x Loaded is-loaded refl .1)
+
+      pub s-fits : length s ≤ 16
+      s-fits = omega (arith, degree-fits, two-lengths (x .n) s r pair-length .0)
+
+      pub r-fits : length r ≤ 16
+      r-fits = omega (arith, degree-fits, two-lengths (x .n) s r pair-length .1)
+
+      pub propose-pairs : (y : Session) → y ≡ pairedSession (x .p) (x .n) (take (x .n) (x .t1)) (take (x .n) (x .t2)) s r
+          → record { number = 0; session = y } ≡ propose x s r
+      propose-pairs y f = step-path (sym h ∙ e) (f ∙ sym session-is)
+
+-- the session with a pair
+pub paired-is : (p n : ℕ) (t1 t2 s r w1 w2 w3 w4 : List ℕ) → w1 ≡ padded t1 → w2 ≡ padded t2 → w3 ≡ padded s → w4 ≡ padded r
+    → record { state = Paired; p = p; n = n; t1 = w1; t2 = w2; s = w3; r = w4 } ≡ pairedSession p n t1 t2 s r
+unfolding pairedSession
+paired-is p n t1 t2 s r w1 w2 w3 w4 e1 e2 e3 e4 = rw (e1, e2, e3, e4)

@@ -1,0 +1,114 @@
+-- A session that counts as loaded or paired has the models, and the pair, that its fields hold, and 1, 2 and 4 refuse nothing of them.
+--   empty-seen                  what a session counts as whose state is empty
+--   loaded-seen, paired-seen    what the session counts as, and that it is whole
+--   forward-whole, back-whole   the modulus and the image of X of each map are whole
+use mathlib.Core.Path.{_≡_, refl, sym, ap, _∙_}
+use mathlib.Core.Bool.{Bool, true, false, not, _&&_, false≢true}
+use mathlib.Core.List.{List, [], _∷_}
+use Prim.Native.Nat.{ℕ}
+use native.Mathlib.Omega.{arith}
+use lib.ListN.{take}
+use Rattle.algebra.specs.Lists.{all}
+use Rattle.modular.specs.Refusal.{badPrime, badDegree, badWord, allBelow}
+use Rattle.session.specs.Kind.{stateOf}
+use Rattle.session.specs.Session.{View, empty, loaded, paired, whole, ifWhole, view, viewAs}
+use Rattle.session.specs.declared.Session.{Session}
+use Rattle.session.specs.declared.State.{State}
+use Rattle.session.specs.declared.State.the-variants.{Empty, Loaded, Paired}
+
+-- states differ
+
+number : State → ℕ
+number Empty = 0
+number Loaded = 1
+number Paired = 2
+
+empty-loaded : Empty ≡ Loaded → ⊥
+unfolding number
+empty-loaded e = omega (arith, ap number e)
+
+empty-paired : Empty ≡ Paired → ⊥
+unfolding number
+empty-paired e = omega (arith, ap number e)
+
+loaded-paired : Loaded ≡ Paired → ⊥
+unfolding number
+loaded-paired e = omega (arith, ap number e)
+
+module _ (p n : ℕ) (a b c d : List ℕ) where
+  loaded-as : (state : State) → stateOf (viewAs state p n a b c d) ≡ Loaded
+      → (viewAs state p n a b c d ≡ loaded p n a b) × (whole p n (a ∷ b ∷ []) ≡ true)
+  unfolding viewAs stateOf
+  loaded-as Empty e = absurd (empty-loaded e)
+  loaded-as Loaded e = go (whole p n (a ∷ b ∷ [])) e
+    where
+      go : (w : Bool) → stateOf (ifWhole w (loaded p n a b)) ≡ Loaded → (ifWhole w (loaded p n a b) ≡ loaded p n a b) × (w ≡ true)
+      go true e = (refl, refl)
+      go false e = absurd (empty-loaded e)
+  loaded-as Paired e = go (whole p n (a ∷ b ∷ c ∷ d ∷ [])) e
+    where
+      go : (w : Bool) → stateOf (ifWhole w (paired p n a b c d)) ≡ Loaded → (ifWhole w (paired p n a b c d) ≡ loaded p n a b) × (whole p n (a ∷ b ∷ []) ≡ true)
+      go true e = absurd (loaded-paired (sym e))
+      go false e = absurd (empty-loaded e)
+
+  paired-as : (state : State) → stateOf (viewAs state p n a b c d) ≡ Paired
+      → (viewAs state p n a b c d ≡ paired p n a b c d) × (whole p n (a ∷ b ∷ c ∷ d ∷ []) ≡ true)
+  unfolding viewAs stateOf
+  paired-as Empty e = absurd (empty-paired e)
+  paired-as Loaded e = go (whole p n (a ∷ b ∷ [])) e
+    where
+      go : (w : Bool) → stateOf (ifWhole w (loaded p n a b)) ≡ Paired → (ifWhole w (loaded p n a b) ≡ paired p n a b c d) × (whole p n (a ∷ b ∷ c ∷ d ∷ []) ≡ true)
+      go true e = absurd (loaded-paired e)
+      go false e = absurd (empty-paired e)
+  paired-as Paired e = go (whole p n (a ∷ b ∷ c ∷ d ∷ [])) e
+    where
+      go : (w : Bool) → stateOf (ifWhole w (paired p n a b c d)) ≡ Paired → (ifWhole w (paired p n a b c d) ≡ paired p n a b c d) × (w ≡ true)
+      go true e = (refl, refl)
+      go false e = absurd (empty-paired e)
+
+module _ (x : Session) (state : State) (e : state ≡ stateOf (view x)) where
+  pub empty-seen : state ≡ Empty → view x ≡ empty
+  unfolding stateOf
+  empty-seen h = go (view x) (sym e ∙ h)
+    where
+      go : (v : View) → stateOf v ≡ Empty → v ≡ empty
+      go empty z = refl
+      go (loaded p n t1 t2) z = cc
+      go (paired p n t1 t2 s r) z = cc
+
+  pub loaded-seen : state ≡ Loaded
+      → (view x ≡ loaded (x .p) (x .n) (take (x .n) (x .t1)) (take (x .n) (x .t2)))
+      × (whole (x .p) (x .n) (take (x .n) (x .t1) ∷ take (x .n) (x .t2) ∷ []) ≡ true)
+  unfolding view
+  loaded-seen h =
+      loaded-as (x .p) (x .n) (take (x .n) (x .t1)) (take (x .n) (x .t2)) (take (x .n) (x .s)) (take (x .n) (x .r)) (x .state) (sym e ∙ h)
+
+  pub loaded-whole : state ≡ Loaded → whole (x .p) (x .n) (take (x .n) (x .t1) ∷ take (x .n) (x .t2) ∷ []) ≡ true
+  loaded-whole h = loaded-seen h .1
+
+  pub paired-seen : state ≡ Paired
+      → (view x ≡ paired (x .p) (x .n) (take (x .n) (x .t1)) (take (x .n) (x .t2)) (take (x .n) (x .s)) (take (x .n) (x .r)))
+      × (whole (x .p) (x .n) (take (x .n) (x .t1) ∷ take (x .n) (x .t2) ∷ take (x .n) (x .s) ∷ take (x .n) (x .r) ∷ []) ≡ true)
+  unfolding view
+  paired-seen h =
+      paired-as (x .p) (x .n) (take (x .n) (x .t1)) (take (x .n) (x .t2)) (take (x .n) (x .s)) (take (x .n) (x .r)) (x .state) (sym e ∙ h)
+
+-- two of four lists
+
+two-of-four : (s a b c d : Bool) → s && not (not (a && (b && (c && (d && true))))) ≡ true
+    → (s && not (not (b && (c && true))) ≡ true) × (s && not (not (a && (d && true))) ≡ true)
+two-of-four false a b c d h = (h, h)
+two-of-four true false b c d h = absurd (false≢true h)
+two-of-four true true false c d h = absurd (false≢true h)
+two-of-four true true true false d h = absurd (false≢true h)
+two-of-four true true true true false h = absurd (false≢true h)
+two-of-four true true true true true h = (refl, refl)
+
+module _ (p n : ℕ) (a b c d : List ℕ) (h : whole p n (a ∷ b ∷ c ∷ d ∷ []) ≡ true) where
+  pub forward-whole : whole p n (b ∷ c ∷ []) ≡ true
+  unfolding whole badWord all
+  forward-whole = two-of-four (not (badPrime p) && not (badDegree n)) (allBelow p a) (allBelow p b) (allBelow p c) (allBelow p d) h .0
+
+  pub back-whole : whole p n (a ∷ d ∷ []) ≡ true
+  unfolding whole badWord all
+  back-whole = two-of-four (not (badPrime p) && not (badDegree n)) (allBelow p a) (allBelow p b) (allBelow p c) (allBelow p d) h .1

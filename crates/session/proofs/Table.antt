@@ -1,0 +1,58 @@
+-- What it means that 9, 10 and 4 do not apply to a conversion: the table has whole groups of words below p, 32,768 words at most, and the
+-- output has its length.
+use mathlib.Core.Path.{_≡_, refl, ap}
+use mathlib.Core.Bool.{Bool, true, false, _||_, _&&_, not}
+use mathlib.Core.List.{List, [], _∷_}
+use Prim.Native.Nat.{ℕ, _*_, _/_, _%_, _≤_}
+use native.Mathlib.Nat as Nat
+use native.Mathlib.Omega.{arith}
+use lib.Dec.{eqb, ltb}
+use lib.ListN.{length}
+use borrow.Author.Tests.{not-false, eqb-true, eq-eqb, ltb-false, le-ltb}
+use Rattle.algebra.specs.Lists.{all}
+use Rattle.modular.specs.Refusal.{badLength, badWord}
+use Rattle.quotient.specs.Residue.{Words}
+use Rattle.quotient.proofs.Refusal as Refusal
+use Rattle.session.specs.Session.{tableNumber}
+
+pub record Convertible (p n : ℕ) (table out : List ℕ) : Type 0 where
+  pub few : length table ≤ 32768
+  pub groups : length table % n ≡ 0
+  pub lengths : length out ≡ length table
+  pub words : Words p (length table) table
+
+one-length : (xs : List ℕ) → badLength (length xs) (xs ∷ []) ≡ false
+unfolding badLength all
+one-length xs = ap (λ b. not (b && true)) (eq-eqb (length xs) (length xs) refl)
+
+neither : (a b : Bool) → a || b ≡ false → (a ≡ false) × (b ≡ false)
+neither true b h = (h, cc)
+neither false b h = (refl, h)
+
+pub table-given : (p n : ℕ) (table out : List ℕ) → tableNumber p n table out ≡ 0 → Convertible p n table out
+unfolding tableNumber
+table-given p n table out h =
+    let (size, h10) = Refusal.refuse-none 8 (ltb 32768 (length table) || not (eqb (length table % n) 0)) _ h in
+    let (lengths, h4) = Refusal.refuse-none 9 (not (eqb (length out) (length table))) _ h10 in
+    let (words, end) = Refusal.refuse-none 3 (badWord p (table ∷ [])) 0 h4 in
+    let (few, groups) = neither (ltb 32768 (length table)) (not (eqb (length table % n) 0)) size in
+    record {
+      few = ltb-false 32768 (length table) few;
+      groups = eqb-true (length table % n) 0 (not-false (eqb (length table % n) 0) groups);
+      lengths = eqb-true (length out) (length table) (not-false (eqb (length out) (length table)) lengths);
+      words = Refusal.words-given p (length table) (table ∷ []) (one-length table) words .0;
+    }
+
+pub given-table : {p n : ℕ} {table out : List ℕ} → Convertible p n table out → tableNumber p n table out ≡ 0
+unfolding tableNumber
+given-table {p} {n} {table} {out} h =
+    rw (
+      le-ltb 32768 (length table) (h .few),
+      eq-eqb (length table % n) 0 (h .groups),
+      eq-eqb (length out) (length table) (h .lengths),
+      Refusal.given-words p (length table) (table ∷ []) (h .words, tt),
+    )
+
+-- the groups are as many as the length divided by n
+pub whole-groups : {p n : ℕ} {table out : List ℕ} → Convertible p n table out → length table / n * n ≡ length table
+whole-groups {n = n} {table = table} h = omega (arith, Nat.div-add-mod' (length table) n, h .groups)

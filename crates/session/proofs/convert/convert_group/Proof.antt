@@ -1,0 +1,25 @@
+-- `convert_group` meets its contract.
+use borrow.Author.Needs.{needs}
+use Rattle.residue.proofs.Padded.{holds-is}
+use Rattle.session.proofs.Converting.{group-short, combination-holds, store-holds, group-done}
+use Rattle.session.proofs.convert.convert_group.Statement.{statement}
+use Rattle.session.proofs.convert.convert_group.Tie as tie
+
+load-requires : tie.Need-load-requires
+load-requires c κs = search group-short
+
+combine-requires : tie.Need-combine-requires
+combine-requires c κs = (search needs, (search needs, search holds-is))
+
+store-requires : tie.Need-store-requires
+store-requires c κs = (search needs, search (store-holds, combination-holds, holds-is))
+
+same-length : tie.Need-same-length
+same-length c = search needs
+
+returns : tie.Need-returns
+returns c = search group-done
+
+pub convert-group-spec : {M : Type 1} → statement M
+convert-group-spec =
+    tie.close (tie.spec load-requires combine-requires store-requires same-length returns)

@@ -1,0 +1,42 @@
+-- `load_number` meets its contract.
+use borrow.Author.Needs.{needs}
+use Rattle.session.proofs.Loading.{load-empty, load-loaded, load-paired}
+use Rattle.session.proofs.load.load_number.Statement.{statement}
+use Rattle.session.proofs.load.load_number.Tie as tie
+
+counts-as-requires : tie.Need-counts-as-requires
+counts-as-requires c κs = search needs
+
+enum-told : tie.Need-enum-told
+enum-told c = search needs
+
+models-number-requires : tie.Need-models-number-requires
+models-number-requires c κs = search needs
+
+enum-told-2 : tie.Need-enum-told-2
+enum-told-2 c = search needs
+
+enum-told-3 : tie.Need-enum-told-3
+enum-told-3 c = search needs
+
+returns : tie.Need-returns
+returns c = search load-empty
+
+returns-2 : tie.Need-returns-2
+returns-2 c = search load-loaded
+
+returns-3 : tie.Need-returns-3
+returns-3 c = search load-paired
+
+pub load-number-spec : {M : Type 1} → statement M
+load-number-spec =
+    tie.close
+    (tie.spec
+    counts-as-requires
+    enum-told
+    models-number-requires
+    enum-told-2
+    enum-told-3
+    returns
+    returns-2
+    returns-3)

@@ -1,0 +1,67 @@
+// The session: a value that holds nothing, two models, or two models and a pair (document 01, "The session"). The calls take a session and
+// give the next one.
+mod array;
+mod convert;
+mod find;
+mod load;
+mod propose;
+mod refusal;
+mod view;
+
+ghost use mathlib.Core.Path.{_≡_};
+ghost use Rattle.session.specs.Session.{newSession, clear as clearOf};
+
+// What a session holds: nothing; p, n, T1 and T2; also S and R.
+pub enum State {
+    Empty,
+    Loaded,
+    Paired,
+}
+
+// The first n words of each array count, and of a state that does not have an item nothing of it counts.
+pub struct Session {
+    pub state: State,
+    pub p: u32,
+    pub n: u32,
+    pub t1: [u16; 16],
+    pub t2: [u16; 16],
+    pub s: [u16; 16],
+    pub r: [u16; 16],
+}
+
+// A call's answer: 0 or the number of the refusal, and the next session.
+pub struct Step {
+    pub number: u32,
+    pub session: Session,
+}
+
+impl Session {
+    // The largest degree, and the most words that one conversion takes.
+    pub const DEGREE: usize = 16;
+
+    pub const WORDS: usize = 32768;
+
+    // A new session starts empty.
+    pub fn new() -> Session
+        ensures { λ r. ⌜ r ≡ newSession ⌝ }
+    {
+        Session {
+            state: State::Empty,
+            p: 0,
+            n: 0,
+            t1: [0; 16],
+            t2: [0; 16],
+            s: [0; 16],
+            r: [0; 16],
+        }
+    }
+    // Any state to empty; it never refuses.
+    pub fn clear(self) -> Step
+        ensures { λ r. ⌜ r ≡ clearOf self ⌝ }
+    {
+        Step {
+            number: 0,
+            session: Session::new(),
+        }
+    }
+}

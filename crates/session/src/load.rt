@@ -1,0 +1,65 @@
+// Load: empty to loaded.
+use crate::Session;
+use crate::State;
+use crate::Step;
+use crate::array::array;
+use crate::refusal::lists_number;
+use crate::refusal::size_number;
+use crate::view::counts_as;
+ghost use mathlib.Core.List.{[], _∷_};
+ghost use mathlib.Core.Path.{_≡_};
+ghost use Rattle.modular.specs.Refusal.{refuse, badPrime, badDegree, badLength, badWord};
+ghost use Rattle.session.specs.Session.{load as loadOf};
+
+// 1 to 4, of two models.
+fn models_number(p: u32, n: u32, t1: &[u16], t2: &[u16]) -> u32
+    ensures { λ r. ⌜ r ≡ refuse 1 (badPrime p) (refuse 2 (badDegree n) (refuse 3 (badLength n (now (t1 .entry) ∷ now (t2 .entry) ∷ [])) (refuse 4 (badWord p (now (t1 .entry) ∷ now (t2 .entry) ∷ [])) 0))) ⌝ }
+{
+    let number = size_number(p, n);
+    if number != 0 {
+        return number;
+    }
+    lists_number(p, n, t1, t2)
+}
+
+// The number of a call of load.
+fn load_number(x: Session, p: u32, n: u32, t1: &[u16], t2: &[u16]) -> u32
+    ensures { λ r. ⌜ r ≡ loadOf x p n (now (t1 .entry)) (now (t2 .entry)) .number ⌝ }
+{
+    let state = counts_as(x);
+    match state {
+        State::Empty => models_number(p, n, t1, t2),
+        State::Loaded => 23,
+        State::Paired => 23,
+    }
+}
+
+impl Session {
+    // The session with two models: 23, 1 to 4.
+    pub fn load(self, p: u32, n: u32, t1: &[u16], t2: &[u16]) -> Step
+        ensures { λ r. ⌜ r ≡ loadOf self p n (now (t1 .entry)) (now (t2 .entry)) ⌝ }
+    {
+        let number = load_number(self, p, n, t1, t2);
+        if number != 0 {
+            return Step {
+                number: number,
+                session: self,
+            };
+        }
+        let w1 = array(t1);
+        let w2 = array(t2);
+        let session = Session {
+            state: State::Loaded,
+            p: p,
+            n: n,
+            t1: w1,
+            t2: w2,
+            s: [0; 16],
+            r: [0; 16],
+        };
+        Step {
+            number: 0,
+            session: session,
+        }
+    }
+}
