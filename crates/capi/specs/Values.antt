@@ -12,29 +12,29 @@ use Rattle.session.specs.declared.State.{State}
 use Rattle.session.specs.declared.State.the-variants.{Empty, Loaded, Paired}
 use Rattle.session.specs.declared.Step.{Step}
 
-unfoldable pub stateOf : ℕ → State
+abbrev pub stateOf : ℕ → State
 stateOf zero = Empty
 stateOf (suc zero) = Loaded
 stateOf (suc (suc zero)) = Paired
 stateOf (suc (suc (suc k))) = Empty
 
-unfoldable pub numberOf : State → ℕ
+abbrev pub numberOf : State → ℕ
 numberOf Empty = 0
 numberOf Loaded = 1
 numberOf Paired = 2
 
-unfoldable pub sessionOf : SessionValue → Session
+abbrev pub sessionOf : SessionValue → Session
 sessionOf v = record { state = stateOf (v .state); p = v .p; n = v .n; t1 = v .t1; t2 = v .t2; s = v .s; r = v .r }
 
-unfoldable pub valueOf : Session → SessionValue
+abbrev pub valueOf : Session → SessionValue
 valueOf x = record { state = numberOf (x .state); p = x .p; n = x .n; t1 = x .t1; t2 = x .t2; s = x .s; r = x .r }
 
-unfoldable pub answerOf : ℕ → SessionValue → SessionValue → StepValue
+abbrev pub answerOf : ℕ → SessionValue → SessionValue → StepValue
 answerOf zero next taken = record { number = 0; session = next }
 answerOf (suc k) next taken = record { number = suc k; session = taken }
 
-unfoldable pub stepOf : SessionValue → Step → StepValue
+abbrev pub stepOf : SessionValue → Step → StepValue
 stepOf v r = answerOf (r .number) (valueOf (r .session)) v
 
-unfoldable pub convertedOf : SessionValue → Step → StepValue
+abbrev pub convertedOf : SessionValue → Step → StepValue
 convertedOf v r = record { number = r .number; session = v }
