@@ -1,0 +1,56 @@
+-- The proof of examples A to I. The values of A, D and E pass their tests, so they are the finder's; F and G are refused by a factorisation, G's 7 also
+-- because A's answer 0 says that 6 does not apply to T1; H is the refusal for an n that does not divide p − 1. Each `refl` computes one test,
+-- conversion or card; alpha, express and hasDivisor, which go through all residues, are not computed.
+use mathlib.Core.Path.{refl}
+use mathlib.Core.List.{[], _∷_}
+use borrow.Author.Tests.{eq-eqb}
+use lib.Dec.{lit<, lit≤}
+use lib.ListN.{length}
+use Rattle.algebra.specs.Lists.{all, equal, first, range}
+use Rattle.card.specs.Bits.{bits, numberFrom, bytes, packed}
+use Rattle.card.specs.Card.{width, allBits, card, badKind, cardLength, writeNumber, writeOutput}
+use Rattle.finder.specs.Finder.{zeta, ratio, leading, findNumber}
+use Rattle.modular.specs.Prime.{isPrime}
+use Rattle.modular.specs.Refusal.{badPrime, badDegree, badLength, badWord, allBelow}
+use Rattle.pair.specs.Pair.{accepts, checkNumber}
+use Rattle.quotient.specs.Divisor.{monic, polynomialProduct}
+use Rattle.quotient.specs.DivisorTest.{hasDivisor}
+use Rattle.quotient.specs.Residue.{sum, scale, constant, shift, top, timesX, product, power, residueOfX, substitute, modulusAt}
+use Rattle.quotient.proofs.Refusal.{refuse-none}
+use Rattle.residue.specs.Array.{padded}
+use Rattle.session.specs.Session.{whole, viewAs, view, pairedSession, converted, tableNumber, convertNumber, imageForward, imageBack, forwardOutput, backOutput}
+use Rattle.examples.specs.Examples.{Found, Examples}
+use Rattle.examples.proofs.Root.{root}
+use Rattle.examples.proofs.Listed.{found, outputs}
+use Rattle.examples.proofs.Refused.{words-counted, factor-divides, indivisible-refused, divisor-refused, second-refused}
+
+pub examples : Examples
+unfolding all equal first range bits numberFrom bytes packed width allBits card badKind cardLength writeNumber writeOutput zeta ratio leading findNumber isPrime badPrime badDegree badLength
+    badWord allBelow accepts checkNumber monic polynomialProduct sum scale constant shift top timesX product power residueOfX substitute modulusAt
+    padded whole viewAs view pairedSession converted tableNumber convertNumber imageForward imageBack forwardOutput backOutput
+examples =
+    let A : Found 3 2 (1 ∷ 0 ∷ []) (2 ∷ 1 ∷ []) 2 (0 ∷ 1 ∷ []) (1 ∷ 2 ∷ []) 2 2 1 (1 ∷ 2 ∷ []) (1 ∷ 2 ∷ []) =
+    found refl refl refl (root refl refl refl refl refl) (root refl refl refl refl refl) refl refl in
+    let splits = factor-divides 3 (1 ∷ []) (2 ∷ 1 ∷ []) (2 ∷ 0 ∷ []) (lit≤ tt) refl refl (lit< tt) (lit< tt) refl in
+    record {
+      A = A;
+      B = refl;
+      B-finds-A = outputs A (2 ∷ 1 ∷ []) (1 ∷ 1 ∷ []) refl refl;
+      C-forward = λ out e. rw (eq-eqb (length out) 2 e);
+      C-back = λ out e. rw (eq-eqb (length out) 2 e);
+      D = found refl refl refl (root refl refl refl refl refl) (root refl refl refl refl refl) refl refl;
+      E = found refl refl refl (root refl refl refl refl refl) (root refl refl refl refl refl) refl refl;
+      F-check = refl;
+      F-find = λ lentS lentR lengthS lengthR.
+          divisor-refused (words-counted 3 (0 ∷ 0 ∷ []) refl) (words-counted 3 (0 ∷ 0 ∷ []) refl) lentS lentR lengthS lengthR refl refl refl
+          (factor-divides 3 (0 ∷ []) (0 ∷ 1 ∷ []) (0 ∷ 0 ∷ []) (lit≤ tt) refl refl (lit< tt) (lit< tt) refl);
+      G-product = refl;
+      G-first = λ t2 lentS lentR w2 lengthS lengthR.
+          divisor-refused (words-counted 3 (2 ∷ 0 ∷ []) refl) w2 lentS lentR lengthS lengthR refl refl refl splits;
+      G-second = λ lentS lentR lengthS lengthR.
+          second-refused (words-counted 3 (1 ∷ 0 ∷ []) refl) (words-counted 3 (2 ∷ 0 ∷ []) refl) lentS lentR lengthS lengthR refl refl refl
+          (refuse-none 5 (hasDivisor 3 (1 ∷ 0 ∷ [])) _ (A .number-is (0 ∷ 0 ∷ []) (0 ∷ 0 ∷ []) refl refl) .0) splits;
+      H = λ t1 t2 lentS lentR w1 w2 lengthS lengthR. indivisible-refused w1 w2 lentS lentR lengthS lengthR refl refl refl;
+      I-pair = λ out e. rw (eq-eqb (length out) 5 e);
+      I-job = λ out e. rw (eq-eqb (length out) 6 e);
+    }

@@ -1,0 +1,5 @@
+-- The proofs of examples A to I.
+pub mod Root
+pub mod Listed
+pub mod Refused
+pub mod Examples

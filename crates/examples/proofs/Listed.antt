@@ -1,0 +1,102 @@
+-- The values that document 01 lists for two models are the finder's if they pass their tests. No residue is searched for: whatever passes the test of
+-- a search is what it finds. S = P1(c·α2) needs no P1: the forward map preserves sums and products and sends α1 to c·α2, and P1(α1) = X, so
+-- S = X(S) = P1(α1)(S) = P1(α1(S)) = P1(c·α2).
+--   Listed p n t1 t2 z v1 v2 a1 a2 c s r   the checker accepts the pair, n divides p − 1, ζ and c are found among the numbers from 1 to p − 1,
+--                                          α1 and α2 are n-th roots of a1 and a2, and the forward map sends α1 to c·α2
+--   found                                  then the finder finds these values, and its answer is 0
+--   outputs                                and it writes S and R
+use mathlib.Core.Path.{_≡_, sym, ap, _∙_, subst}
+use mathlib.Core.List.{List}
+use Prim.Native.Nat.{ℕ, suc, _-_, _%_, _≤_}
+use lib.ListN.{length}
+use Rattle.finder.specs.Finder.{zeta, ratio, express, findS, findR, findOutputS, findOutputR}
+use Rattle.finder.specs.Theorem.{Models}
+use Rattle.finder.proofs.ChosenPair.{zeta-found}
+use Rattle.finder.proofs.Construction.{root-independent}
+use Rattle.finder.proofs.Express.{express-is, express-unique}
+use Rattle.finder.proofs.Theorem.{demand-3}
+use Rattle.finder.proofs.Zeta.{OrderModulo}
+use Rattle.pair.specs.Pair.{Congruences, checkNumber}
+use Rattle.pair.specs.Theorem.{Given}
+use Rattle.pair.proofs.Theorem.{checker-theorem}
+use Rattle.quotient.specs.Residue.{constant, modulusAt, scale, substitute}
+use Rattle.quotient.proofs.Substitution.{substitute-substitute, x-substitute}
+use Rattle.quotient.proofs.Words.{words-length}
+use Rattle.examples.specs.Examples.{Found}
+use Rattle.examples.proofs.Root.{Root, IsAlpha, root-is-alpha}
+
+record Listed (p n : ℕ) (t1 t2 : List ℕ) (z : ℕ) (v1 v2 : List ℕ) (a1 a2 c : ℕ) (s r : List ℕ) : Type 0 where
+  accepted : checkNumber p n t1 t2 s r ≡ 0
+  divides : (p - 1) % n ≡ 0
+  zeta-is : zeta p n ≡ z
+  root1 : Root p n t1 z v1 a1
+  root2 : Root p n t2 z v2 a2
+  ratio-is : ratio p n a1 a2 ≡ c
+  image-is : substitute p t2 s v1 ≡ scale p c v2
+
+module _ {p n : ℕ} {t1 t2 : List ℕ} {z : ℕ} {v1 v2 : List ℕ} {a1 a2 c : ℕ} {s r : List ℕ} (h : Listed p (suc n) t1 t2 z v1 v2 a1 a2 c s r) where
+  given : Given p (suc n) t1 t2 s r
+  given = checker-theorem p (suc n) t1 t2 s r .0 (h .accepted) .0
+
+  congruences : Congruences p t1 t2 s r
+  congruences = checker-theorem p (suc n) t1 t2 s r .0 (h .accepted) .1
+
+  root-of-t1 : modulusAt p t2 s t1 ≡ constant (suc n) 0
+  root-of-t1 = congruences .root-of-t1 ∙ ap (λ k. constant k 0) (words-length (given .modulus2))
+
+  order : OrderModulo p (suc n) z
+  order = subst (OrderModulo p (suc n)) (h .zeta-is) (zeta-found (given .prime) (given .degree .1) (h .divides) .2)
+
+  alpha1-found : IsAlpha p (suc n) t1 z v1 a1
+  alpha1-found = root-is-alpha (given .prime) (given .modulus1) (h .divides) order (h .root1)
+
+  alpha2-found : IsAlpha p (suc n) t2 z v2 a2
+  alpha2-found = root-is-alpha (given .prime) (given .modulus2) (h .divides) order (h .root2)
+
+  s-is : findS p (suc n) t1 t2 ≡ s
+  unfolding findS
+  s-is =
+      let big : 2 ≤ p = given .prime .0 in
+      rw (h .zeta-is, alpha1-found .alpha-is, alpha2-found .alpha-is, alpha1-found .constant-is, alpha2-found .constant-is, h .ratio-is, ← h .image-is)
+      (sym (substitute-substitute big (given .modulus1) (given .modulus2) (given .words-s) root-of-t1 (alpha1-found .words) (express p t1 v1))
+      ∙ ap (substitute p t2 s) (express-is big (given .modulus1) (alpha1-found .words) (alpha1-found .independent) .1)
+      ∙ x-substitute big (given .modulus1) (given .modulus2) (given .words-s) root-of-t1)
+
+  r-is : findR p (suc n) t1 t2 ≡ r
+  unfolding findR
+  r-is =
+      ap (express p t2) s-is
+      ∙ express-unique (given .prime .0) (given .modulus2) (given .words-s)
+      (root-independent (given .prime) (given .modulus1) (given .modulus2) (alpha1-found .irreducible) (given .words-s) root-of-t1)
+      r (given .words-r) (congruences .r-of-s)
+
+  models : Models p (suc n) t1 t2
+  models = record { prime = given .prime; small = given .small; degree = given .degree; modulus1 = given .modulus1; modulus2 = given .modulus2 }
+
+  values-found : Found p (suc n) t1 t2 z v1 v2 a1 a2 c s r
+  values-found =
+      record {
+        zeta-is = h .zeta-is;
+        alpha1-is = alpha1-found .alpha-is;
+        alpha2-is = alpha2-found .alpha-is;
+        a1-is = alpha1-found .constant-is;
+        a2-is = alpha2-found .constant-is;
+        c-is = h .ratio-is;
+        s-is = s-is;
+        r-is = r-is;
+        number-is = λ lentS lentR lengthS lengthR.
+            demand-3 p (suc n) t1 t2 models .returns (h .divides) lentS lentR lengthS lengthR .1 (alpha1-found .irreducible, alpha2-found .irreducible);
+      }
+
+pub found : {p n : ℕ} {t1 t2 : List ℕ} {z : ℕ} {v1 v2 : List ℕ} {a1 a2 c : ℕ} {s r : List ℕ}
+    → checkNumber p (suc n) t1 t2 s r ≡ 0 → (p - 1) % suc n ≡ 0 → zeta p (suc n) ≡ z → Root p (suc n) t1 z v1 a1 → Root p (suc n) t2 z v2 a2
+    → ratio p (suc n) a1 a2 ≡ c → substitute p t2 s v1 ≡ scale p c v2 → Found p (suc n) t1 t2 z v1 v2 a1 a2 c s r
+found accepted divides zeta-is root1 root2 ratio-is image-is =
+    values-found record { accepted = accepted; divides = divides; zeta-is = zeta-is; root1 = root1; root2 = root2; ratio-is = ratio-is; image-is = image-is }
+
+pub outputs : {p n : ℕ} {t1 t2 : List ℕ} {z : ℕ} {v1 v2 : List ℕ} {a1 a2 c : ℕ} {s r : List ℕ} → Found p n t1 t2 z v1 v2 a1 a2 c s r
+    → (lentS lentR : List ℕ) → length lentS ≡ n → length lentR ≡ n → (findOutputS p n t1 t2 lentS lentR ≡ s) × (findOutputR p n t1 t2 lentS lentR ≡ r)
+unfolding findOutputS findOutputR
+outputs h lentS lentR lengthS lengthR =
+    let e = h .number-is lentS lentR lengthS lengthR in
+    (rw (e, h .s-is), rw (e, h .r-is))

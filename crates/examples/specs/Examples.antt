@@ -1,0 +1,65 @@
+-- Examples A to I of document 01, "Small fields by hand", in one statement about the definitions that the contracts cite. Lists are constant
+-- first. Each field quotes its line.
+use mathlib.Core.Path.{_≡_}
+use mathlib.Core.List.{List, [], _∷_}
+use Prim.Native.Nat.{ℕ}
+use lib.ListN.{length}
+use Rattle.card.specs.Card.{writeOutput}
+use Rattle.finder.specs.Finder.{zeta, alpha, powerConstant, ratio, findS, findR, findNumber, findOutputS, findOutputR}
+use Rattle.pair.specs.Pair.{checkNumber}
+use Rattle.quotient.specs.Divisor.{monic, polynomialProduct}
+use Rattle.quotient.specs.Residue.{Words}
+use Rattle.session.specs.Session.{pairedSession, forwardOutput, backOutput}
+
+-- the finder's values for two models, from ζ to R
+pub record Found (p n : ℕ) (t1 t2 : List ℕ) (z : ℕ) (alpha1 alpha2 : List ℕ) (a1 a2 c : ℕ) (s r : List ℕ) : Type 0 where
+  pub zeta-is : zeta p n ≡ z
+  pub alpha1-is : alpha p t1 z ≡ alpha1
+  pub alpha2-is : alpha p t2 z ≡ alpha2
+  pub a1-is : powerConstant p t1 alpha1 ≡ a1
+  pub a2-is : powerConstant p t2 alpha2 ≡ a2
+  pub c-is : ratio p n a1 a2 ≡ c
+  pub s-is : findS p n t1 t2 ≡ s
+  pub r-is : findR p n t1 t2 ≡ r
+  pub number-is : (lentS lentR : List ℕ) → length lentS ≡ n → length lentR ≡ n → findNumber p n t1 t2 lentS lentR ≡ 0
+
+pub record Examples : Type 0 where
+  -- A: p 3, T1 [1,0], T2 [2,1]: ζ 2, α1 [0,1], α2 [1,2], c 1, S [1,2], R [1,2]
+  pub A : Found 3 2 (1 ∷ 0 ∷ []) (2 ∷ 1 ∷ []) 2 (0 ∷ 1 ∷ []) (1 ∷ 2 ∷ []) 2 2 1 (1 ∷ 2 ∷ []) (1 ∷ 2 ∷ [])
+  -- B: models of A: S [2,1], R [1,1] is accepted; the finder gives A's pair
+  pub B : checkNumber 3 2 (1 ∷ 0 ∷ []) (2 ∷ 1 ∷ []) (2 ∷ 1 ∷ []) (1 ∷ 1 ∷ []) ≡ 0
+  pub B-finds-A :
+      (findOutputS 3 2 (1 ∷ 0 ∷ []) (2 ∷ 1 ∷ []) (2 ∷ 1 ∷ []) (1 ∷ 1 ∷ []) ≡ 1 ∷ 2 ∷ [])
+      × (findOutputR 3 2 (1 ∷ 0 ∷ []) (2 ∷ 1 ∷ []) (2 ∷ 1 ∷ []) (1 ∷ 1 ∷ []) ≡ 1 ∷ 2 ∷ [])
+  -- C: pair of A: forward of [1,1] is [2,2], back of [2,2] is [1,1]
+  pub C-forward :
+      (out : List ℕ) → length out ≡ 2
+      → forwardOutput (pairedSession 3 2 (1 ∷ 0 ∷ []) (2 ∷ 1 ∷ []) (1 ∷ 2 ∷ []) (1 ∷ 2 ∷ [])) (1 ∷ 1 ∷ []) out ≡ 2 ∷ 2 ∷ []
+  pub C-back :
+      (out : List ℕ) → length out ≡ 2
+      → backOutput (pairedSession 3 2 (1 ∷ 0 ∷ []) (2 ∷ 1 ∷ []) (1 ∷ 2 ∷ []) (1 ∷ 2 ∷ [])) (2 ∷ 2 ∷ []) out ≡ 1 ∷ 1 ∷ []
+  -- D: p 7, T1 [5,0,0], T2 [4,0,0]: ζ 2, α1 [0,0,1], α2 [0,1,0], a1 4, a2 3, c 3, S [0,0,1], R [0,0,5]
+  pub D :
+      Found 7 3 (5 ∷ 0 ∷ 0 ∷ []) (4 ∷ 0 ∷ 0 ∷ []) 2 (0 ∷ 0 ∷ 1 ∷ []) (0 ∷ 1 ∷ 0 ∷ []) 4 3 3 (0 ∷ 0 ∷ 1 ∷ []) (0 ∷ 0 ∷ 5 ∷ [])
+  -- E: p 2, T1 [1], T2 [0]: S [1], R [0]
+  pub E : Found 2 1 (1 ∷ []) (0 ∷ []) 1 (1 ∷ []) (1 ∷ []) 1 1 1 (1 ∷ []) (0 ∷ [])
+  -- F: p 3, T1 = T2 = [0,0]: S = R = [0,1] is accepted; the finder refuses with 6
+  pub F-check : checkNumber 3 2 (0 ∷ 0 ∷ []) (0 ∷ 0 ∷ []) (0 ∷ 1 ∷ []) (0 ∷ 1 ∷ []) ≡ 0
+  pub F-find :
+      (lentS lentR : List ℕ) → length lentS ≡ 2 → length lentR ≡ 2 → findNumber 3 2 (0 ∷ 0 ∷ []) (0 ∷ 0 ∷ []) lentS lentR ≡ 6
+  -- G: p 3, T1 [2,0] is (X+1)(X+2): finder 6, whatever T2; as T2 under T1 [1,0]: 7
+  pub G-product : polynomialProduct 3 (monic (1 ∷ [])) (monic (2 ∷ [])) ≡ monic (2 ∷ 0 ∷ [])
+  pub G-first :
+      (t2 lentS lentR : List ℕ) → Words 3 2 t2 → length lentS ≡ 2 → length lentR ≡ 2 → findNumber 3 2 (2 ∷ 0 ∷ []) t2 lentS lentR ≡ 6
+  pub G-second :
+      (lentS lentR : List ℕ) → length lentS ≡ 2 → length lentR ≡ 2 → findNumber 3 2 (1 ∷ 0 ∷ []) (2 ∷ 0 ∷ []) lentS lentR ≡ 7
+  -- H: p 5, n 3: finder 5, whatever the models
+  pub H :
+      (t1 t2 lentS lentR : List ℕ) → Words 5 3 t1 → Words 5 3 t2 → length lentS ≡ 3 → length lentR ≡ 3
+      → findNumber 5 3 t1 t2 lentS lentR ≡ 5
+  -- I: pair card of A is 00 03 12 49 66; job card of D is 00 07 21 A0 40 00
+  pub I-pair :
+      (out : List ℕ) → length out ≡ 5
+      → writeOutput 3 2 2 (1 ∷ 0 ∷ 2 ∷ 1 ∷ 1 ∷ 2 ∷ 1 ∷ 2 ∷ []) out ≡ 0x00 ∷ 0x03 ∷ 0x12 ∷ 0x49 ∷ 0x66 ∷ []
+  pub I-job :
+      (out : List ℕ) → length out ≡ 6 → writeOutput 7 3 1 (5 ∷ 0 ∷ 0 ∷ 4 ∷ 0 ∷ 0 ∷ []) out ≡ 0x00 ∷ 0x07 ∷ 0x21 ∷ 0xA0 ∷ 0x40 ∷ 0x00 ∷ []

@@ -1,0 +1,2 @@
+-- Examples A to I of document 01.
+pub mod Examples
