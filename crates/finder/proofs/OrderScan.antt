@@ -1,13 +1,13 @@
--- The loops of `unity`: the powers of w are compared with 1 from the first on; the numbers g are tried from 1 on; the smallest of the
--- powers of w that have order n is kept.
+-- The loops of `unity`: the powers of w are compared with 1 from the first on; the numbers g are tried from s on, modulo p; the smallest of
+-- the powers of w that have order n is kept.
 --   Lower p n w x m        x = w^m, and no w^k with 1 ≤ k < m is 1
---   Tried p n g            1 ≤ g < p, and no j with 1 ≤ j < g has a power j^((p − 1)/n) of order n
+--   Tried s p n g w        s ≤ g < s + p, w = g^((p − 1)/n), and no j with s ≤ j < g has a power j^((p − 1)/n) of order n
 --   Kept p n w least x k   x = w^k, and `least` is the smallest of w, w², …, w^k that has order n
 use mathlib.Core.Path.{_≡_, refl, sym, ap, subst, _∙_}
 use mathlib.Core.Bool.{Bool, true, false, not, false≢true}
 use mathlib.Core.Logic.{⊎-elim}
 use Prim.Native.Nat.{ℕ, zero, suc, _+_, _-_, _*_, _/_, _%_, _^_, _≤_, _<_}
-use native.Mathlib.Nat.{mod-eq-of-lt, pow-zero, pow-succ', pow-suc, eq-or-lt-of-le}
+use native.Mathlib.Nat.{mod-eq-of-lt, mod-lt, mod-add-mod, add-mod-mod, add-mod-right, pow-zero, pow-succ', pow-suc, eq-or-lt-of-le}
 use native.Mathlib.Numerals.{add-one}
 use native.Mathlib.Omega.{arith}
 use lib.Dec.{eqb}
@@ -65,30 +65,48 @@ module _ (p n w : ℕ) where
           if-false = λ f o. eqb-false x 1 f (sym value ∙ o .0);
         }
 
-pub record Tried (p n g : ℕ) : Type 0 where
-  pub from : 1 ≤ g
-  pub to : g < p
-  pub others : (j : ℕ) → 1 ≤ j → j < g → OrderModulo p n (j ^ ((p - 1) / n) % p) → ⊥
+pub record Tried (s p n g w : ℕ) : Type 0 where
+  pub from : s ≤ g
+  pub to : g < s + p
+  pub power-is : w ≡ (g % p) ^ ((p - 1) / n) % p
+  pub small : w < p
+  pub others : (j : ℕ) → s ≤ j → j < g → OrderModulo p n ((j % p) ^ ((p - 1) / n) % p) → ⊥
 
-module _ (p n : ℕ) (h : Admissible p n) where
-  pub tried-start : Tried p n 1
-  tried-start = record { from = omega arith; to = h .prime .0; others = λ j low high. absurd (omega arith) }
+-- every residue j is one of s, s + 1, …, s + p − 1 modulo p
+comes : (p s j : ℕ) → j < p → (s + (j + (p - s % p)) % p) % p ≡ j
+comes p s j l =
+    let r : s % p < p = mod-lt s (omega arith) in
+    let e : s % p + (j + (p - s % p)) ≡ j + p = omega arith in
+    add-mod-mod s (j + (p - s % p)) p ∙ sym (mod-add-mod s p (j + (p - s % p))) ∙ ap (λ x. x % p) e ∙ add-mod-right j p ∙ mod-eq-of-lt l
 
-  module _ (g w : ℕ) (value : w ≡ g ^ ((p - 1) / n) % p) (r : Bool) (answer : Decides r (OrderModulo p n w)) where
-    -- some j is still to come
-    pub tried-turn : Tried p n g → not r ≡ true → Tried p n (g + 1)
-    tried-turn t no-order =
+pub base-fits : (p n g : ℕ) → Admissible p n → g % p ≤ 1048576
+base-fits p n g h =
+    let l : g % p < p = mod-lt g (omega (arith, h .prime .0)) in
+    omega (arith, h .small)
+
+module _ (s p n : ℕ) (h : Admissible p n) where
+  pub tried-start : (w : ℕ) → w ≡ (s % p) ^ ((p - 1) / n) % p → w < p → Tried s p n s w
+  tried-start w e l =
+      record { from = omega arith; to = omega (arith, h .prime .0); power-is = e; small = l; others = λ j low high. absurd (omega arith) }
+
+  module _ (g w : ℕ) (t : Tried s p n g w) (r : Bool) (answer : Decides r (OrderModulo p n w)) where
+    -- some number is still to come
+    pub tried-turn : not r ≡ true → (w′ : ℕ) → w′ ≡ ((g + 1) % p) ^ ((p - 1) / n) % p → w′ < p → Tried s p n (g + 1) w′
+    tried-turn no-order w′ e l =
         let (j, low, high, o) = generator-exists h in
-        let past : j ≤ g → ⊥ = λ l. passed j low l o in
-        record { from = omega arith; to = omega arith; others = λ i low' high'. passed i low' (omega arith) }
+        let i : ℕ = s + (j + (p - s % p)) % p in
+        let past : i ≤ g → ⊥ = λ b. passed i (omega arith) b (subst (λ x. OrderModulo p n (x ^ ((p - 1) / n) % p)) (sym (comes p s j high)) o) in
+        let least : (j + (p - s % p)) % p < p = mod-lt _ (omega arith) in
+        let last : i < s + p = omega arith in
+        record { from = omega (arith, t .from); to = omega arith; power-is = e; small = l; others = λ i low' high'. passed i low' (omega arith) }
       where
-        passed : (i : ℕ) → 1 ≤ i → i ≤ g → OrderModulo p n (i ^ ((p - 1) / n) % p) → ⊥
+        passed : (i : ℕ) → s ≤ i → i ≤ g → OrderModulo p n ((i % p) ^ ((p - 1) / n) % p) → ⊥
         passed i low l o =
-            ⊎-elim (λ s. answer .if-false (not-true r no-order) (subst (OrderModulo p n) (ap (λ x. x ^ ((p - 1) / n) % p) s ∙ sym value) o)) (λ less. t .others i low less o)
+            ⊎-elim (λ e. answer .if-false (not-true r no-order) (subst (OrderModulo p n) (ap (λ x. (x % p) ^ ((p - 1) / n) % p) e ∙ sym (t .power-is)) o)) (λ less. t .others i low less o)
             (eq-or-lt-of-le l)
 
-    pub tried-end : not r ≡ false → OrderModulo p n (g ^ ((p - 1) / n) % p)
-    tried-end order = subst (OrderModulo p n) value (answer .if-true (not-false r order))
+    pub tried-end : not r ≡ false → OrderModulo p n w
+    tried-end order = answer .if-true (not-false r order)
 
 pub record Kept (p n w least x k : ℕ) : Type 0 where
   pub from : 1 ≤ k
@@ -102,9 +120,8 @@ pub record Kept (p n w least x k : ℕ) : Type 0 where
   pub least-is : (j : ℕ) → 1 ≤ j → j ≤ k → OrderModulo p n (w ^ j % p) → least ≤ w ^ j % p
 
 module _ (p n w : ℕ) where
-  pub kept-start : 1 ≤ n → w < p → (v : ℕ) → w ≡ v → OrderModulo p n v → Kept p n w w w 1
-  kept-start pos l v same ov =
-      let o : OrderModulo p n w = subst (OrderModulo p n) (sym same) ov in
+  pub kept-start : 1 ≤ n → w < p → OrderModulo p n w → Kept p n w w w 1
+  kept-start pos l o =
       record {
         from = omega arith;
         to = pos;

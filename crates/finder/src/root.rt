@@ -4,7 +4,6 @@ ghost use Prim.Native.Nat.{_*_, _%_, _^_, _≤_, _<_};
 ghost use lib.Dec.{eqb};
 ghost use Rattle.finder.specs.Finder.{ratio as ratioOf};
 ghost use Rattle.finder.specs.Root.{Admissible, OrderModulo, Solvable};
-use crate::unity::generator;
 use modular::word::inverse;
 use modular::word::mul;
 use modular::word::power;
@@ -43,15 +42,15 @@ fn inverse_of_degree(m: u64, n: u64) -> u64
 }
 
 // A number that is tried as a solution y of y^n = b. With p − 1 = n·m·d, m prime to n and every prime of d one of n, and r the inverse of n
-// modulo m, b^r is a solution up to a power of h = g^m, which has order n·d.
-fn candidate(p: u64, n: u64, b: u64) -> u64
+// modulo m, b^r is a solution up to a power of h = g^m, which has order n·d if g^((p − 1)/n) has order n.
+fn candidate(p: u64, n: u64, g: u64, b: u64) -> u64
     requires { ⌜ Admissible p n ⌝ }
-    requires { ⌜ b < p ⌝ }
+    requires { ⌜ (g < p) × (b < p) ⌝ }
     ensures { λ y. ⌜ y < p ⌝ }
 {
     let k = (p - 1) / n;
     let m = coprime_part(k, n);
-    let h = power(p, generator(p, n), m);
+    let h = power(p, g, m);
     let f = power(p, h, n);
     let mut y = power(p, b, inverse_of_degree(m, n));
     let mut x = power(p, y, n);
@@ -72,13 +71,13 @@ fn solves(p: u64, n: u64, a1: u64, a2: u64, c: u64) -> bool
     mul(p, power(p, c, n), a2) == a1
 }
 
-// Some c with c^n·a2 = a1: the candidate, or else the first that a scan finds.
+// Some c with c^n·a2 = a1: the candidate, or else the first that a scan finds. In the finder a1^((p − 1)/n) = ζ, so that a1 serves as g.
 fn solution(p: u64, n: u64, a1: u64, a2: u64) -> u64
     requires { ⌜ Admissible p n ⌝ }
     requires { ⌜ Solvable p n a1 a2 ⌝ }
     ensures { λ c. ⌜ (c < p) × (c ^ n * a2 % p ≡ a1) ⌝ }
 {
-    let y = candidate(p, n, mul(p, a1, inverse(p, a2)));
+    let y = candidate(p, n, a1, mul(p, a1, inverse(p, a2)));
     if solves(p, n, a1, a2, y) {
         return y;
     }

@@ -1,6 +1,6 @@
 // Roots of unity modulo a prime p, where n divides p − 1: an element of order n, and ζ, the smallest of them.
 ghost use mathlib.Core.Path.{_≡_};
-ghost use Prim.Native.Nat.{_-_, _/_, _%_, _^_, _≤_, _<_};
+ghost use Prim.Native.Nat.{_≤_, _<_};
 ghost use Rattle.finder.specs.Finder.{zeta as zetaOf};
 ghost use Rattle.finder.specs.Root.{Decides, Admissible, OrderModulo};
 use modular::word::mul;
@@ -23,17 +23,20 @@ fn has_order(p: u64, n: u64, w: u64) -> bool
     x == 1
 }
 
-// The smallest g whose power g^((p − 1)/n) has order n.
-pub fn generator(p: u64, n: u64) -> u64
+// An element of order n: the first of the powers g^((p − 1)/n) that has it, for g = 31415, 31416, … modulo p. To start at 1 would be slower:
+// if the smallest primes are n-th powers, so are the products of them, and these are most of the first numbers.
+fn element_of_order(p: u64, n: u64) -> u64
     requires { ⌜ Admissible p n ⌝ }
-    ensures { λ g. ⌜ (g < p) × OrderModulo p n (g ^ ((p - 1) / n) % p) ⌝ }
+    ensures { λ w. ⌜ (w < p) × OrderModulo p n w ⌝ }
 {
     let k = (p - 1) / n;
-    let mut g = 1;
-    while !has_order(p, n, power(p, g, k)) {
+    let mut g = 31415;
+    let mut w = power(p, g % p, k);
+    while !has_order(p, n, w) {
         g += 1;
+        w = power(p, g % p, k);
     }
-    g
+    w
 }
 
 // ζ, the smallest of the powers w, w², …, w^n of an element w of order n that have order n.
@@ -41,7 +44,7 @@ pub fn zeta(p: u64, n: u64) -> u64
     requires { ⌜ Admissible p n ⌝ }
     ensures { λ r. ⌜ (r ≡ zetaOf p n) × (r < p) ⌝ }
 {
-    let w = power(p, generator(p, n), (p - 1) / n);
+    let w = element_of_order(p, n);
     let mut least = w;
     let mut x = w;
     let mut k = 1;

@@ -8,15 +8,14 @@ use Rattle.finder.proofs.root.candidate.Reads as reads
 use Rattle.finder.proofs.root.candidate.Lts as lts
 use Rattle.finder.proofs.root.coprime_part.Reads as coprime-part-reads
 use Rattle.finder.proofs.root.inverse_of_degree.Reads as inverse-of-degree-reads
-use Rattle.finder.proofs.unity.generator.Reads as generator-reads
 use Rattle.modular.proofs.word.mul.Reads as mul-reads
 use Rattle.modular.proofs.word.power.Reads as power-reads
 
 abbrev Inv-loop : tie.InvT-loop
-Inv-loop p n b k m h f y₀ x₀ j₀ y x j = (y < p) × (x < p)
+Inv-loop p n g b k m h f y₀ x₀ j₀ y x j = (y < p) × (x < p)
 
 abbrev μ-loop : tie.MeasureT-loop
-μ-loop p n b k m h f y₀ x₀ j₀ y x j = j
+μ-loop p n g b k m h f y₀ x₀ j₀ y x j = j
 
 -- src/root.rt:51:14
 sub-k : tie.Need-sub-k Inv-loop μ-loop
@@ -29,10 +28,6 @@ div-k c = search needs
 -- src/root.rt:52:9
 coprime-part-requires : tie.Need-coprime-part-requires Inv-loop μ-loop
 coprime-part-requires c κs = (search index-positive, search index-small, search needs)
-
--- src/root.rt:53:22
-generator-requires : tie.Need-generator-requires Inv-loop μ-loop
-generator-requires c κs = search needs
 
 -- src/root.rt:53:9
 power-requires : tie.Need-power-requires Inv-loop μ-loop
@@ -99,7 +94,6 @@ candidate-spec =
     sub-k
     div-k
     coprime-part-requires
-    generator-requires
     power-requires
     power-requires-2
     inverse-of-degree-requires

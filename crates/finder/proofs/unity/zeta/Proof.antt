@@ -7,10 +7,9 @@ use Rattle.finder.proofs.unity.zeta.Statement.{statement}
 use Rattle.finder.proofs.unity.zeta.Tie as tie
 use Rattle.finder.proofs.unity.zeta.Reads as reads
 use Rattle.finder.proofs.unity.zeta.Lts as lts
-use Rattle.finder.proofs.unity.generator.Reads as generator-reads
+use Rattle.finder.proofs.unity.element_of_order.Reads as element-of-order-reads
 use Rattle.finder.proofs.unity.has_order.Reads as has-order-reads
 use Rattle.modular.proofs.word.mul.Reads as mul-reads
-use Rattle.modular.proofs.word.power.Reads as power-reads
 
 abbrev Inv-loop : tie.InvT-loop
 Inv-loop p n w least₀ x₀ k₀ least x k = Kept p n w least x k
@@ -19,20 +18,8 @@ abbrev μ-loop : tie.MeasureT-loop
 μ-loop p n w least₀ x₀ k₀ least x k = n - k
 
 -- src/root.rt:44:22
-generator-requires : tie.Need-generator-requires Inv-loop μ-loop
-generator-requires c κs = search needs
-
--- src/root.rt:44:40
-sub-power : tie.Need-sub-power Inv-loop μ-loop
-sub-power c = search needs
-
--- src/root.rt:44:39
-div-power : tie.Need-div-power Inv-loop μ-loop
-div-power c = search needs
-
--- src/root.rt:44:9
-power-requires : tie.Need-power-requires Inv-loop μ-loop
-power-requires c κs = search needs
+element-of-order-requires : tie.Need-element-of-order-requires Inv-loop μ-loop
+element-of-order-requires c κs = search needs
 
 -- src/root.rt:48:5
 loop-holds : tie.Need-loop-holds Inv-loop μ-loop
@@ -68,10 +55,7 @@ zeta-spec =
     (tie.spec
     Inv-loop
     μ-loop
-    generator-requires
-    sub-power
-    div-power
-    power-requires
+    element-of-order-requires
     loop-holds
     mul-requires
     has-order-requires
