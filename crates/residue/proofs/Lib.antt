@@ -8,6 +8,7 @@ pub mod Product
 pub mod Rows
 pub mod Substitute
 pub mod Power
+pub mod TimesX
 pub mod Copy
 pub mod Powers
 pub mod Combination

@@ -11,7 +11,7 @@ use mir.Val.{Fits}
 use Rattle.algebra.proofs.RingLaws as RingLaws
 use Rattle.quotient.specs.Residue.{Words, none, more, sum, scale, shift, top, timesX, constant, product, power, residueOfX}
 use Rattle.quotient.proofs.Sums.{sum-zero, scale-modulus}
-use Rattle.quotient.proofs.Words.{words-length, zeros-words, product-words, power-words, residueOfX-words}
+use Rattle.quotient.proofs.Words.{words-length, zeros-words, product-words, power-words}
 use Rattle.quotient.proofs.Ring.{residueRing, mulResidue, power-is}
 use Rattle.residue.specs.Array.{padded, Holds}
 use Rattle.residue.proofs.Padded.{padded-zeros, holds-word, holds-is, front-is}
@@ -82,38 +82,29 @@ module _ {p n : ℕ} {t : List ℕ} (big : 2 ≤ p) (wt : Words p n t) {u : List
       let f : suc (k / 2 + k / 2) ≡ k = omega arith in
       ap (product p t u) (sym (power-sum (k / 2) (k / 2))) ∙ ap (power p t u) f
 
--- the same of arrays that hold t and u
+-- the same of arrays that hold t and the powers of u
 
-pub power-none : (p n k : ℕ) (t u r : List ℕ) → k ≡ 0 → Holds p n t → r ≡ padded (constant n 1) → r ≡ padded (power p (take n t) (take n u) k)
+pub power-none : (p n k : ℕ) (t u r : List ℕ) → k ≡ 0 → Holds p n t → r ≡ padded (constant n 1) → r ≡ padded (power p (take n t) u k)
 unfolding power
 power-none p n k t u r z x e =
-    e ∙ ap padded (ap (λ m. constant m 1) (sym (words-length (x .words))) ∙ ap (power p (take n t) (take n u)) (sym z))
+    e ∙ ap padded (ap (λ m. constant m 1) (sym (words-length (x .words))) ∙ ap (power p (take n t) u) (sym z))
 
-pub power-holds : (p n k : ℕ) (t u h : List ℕ) → h ≡ padded (power p (take n t) (take n u) k) → 2 ≤ p → Holds p n t → Holds p n u → Holds p n h
-power-holds p n k t u h e big x y = holds-is e (power-words big (x .words) (y .words) k)
+pub power-holds : (p n k : ℕ) (t u h : List ℕ) → h ≡ padded (power p (take n t) u k) → 2 ≤ p → Holds p n t → Words p n u → Holds p n h
+power-holds p n k t u h e big x y = holds-is e (power-words big (x .words) y k)
 
-pub square-holds : (p n k : ℕ) (t u h s : List ℕ) → s ≡ padded (product p (take n t) (take n h) (take n h)) → h ≡ padded (power p (take n t) (take n u) k)
-    → 2 ≤ p → Holds p n t → Holds p n u → Holds p n s
+pub square-holds : (p n k : ℕ) (t u h s : List ℕ) → s ≡ padded (product p (take n t) (take n h) (take n h)) → h ≡ padded (power p (take n t) u k)
+    → 2 ≤ p → Holds p n t → Words p n u → Holds p n s
 square-holds p n k t u h s f e big x y = holds-is f (product-words big (x .words) (take n h) (power-holds p n k t u h e big x y .words))
 
-pub power-even-array : (p n k : ℕ) (t u h s : List ℕ) → s ≡ padded (product p (take n t) (take n h) (take n h)) → h ≡ padded (power p (take n t) (take n u) (k / 2))
-    → 2 ≤ p → Holds p n t → Holds p n u → k % 2 ≡ 0 → s ≡ padded (power p (take n t) (take n u) k)
+pub power-even-array : (p n k : ℕ) (t u h s : List ℕ) → s ≡ padded (product p (take n t) (take n h) (take n h)) → h ≡ padded (power p (take n t) u (k / 2))
+    → 2 ≤ p → Holds p n t → Words p n u → k % 2 ≡ 0 → s ≡ padded (power p (take n t) u k)
 power-even-array p n k t u h s f e big x y z =
-    let i : take n h ≡ power p (take n t) (take n u) (k / 2) = front-is e (power-words big (x .words) (y .words) (k / 2)) in
-    f ∙ ap padded (ap₂ (product p (take n t)) i i ∙ power-even big (x .words) (y .words) k z)
+    let i : take n h ≡ power p (take n t) u (k / 2) = front-is e (power-words big (x .words) y (k / 2)) in
+    f ∙ ap padded (ap₂ (product p (take n t)) i i ∙ power-even big (x .words) y k z)
 
-pub power-odd-array : (p n k : ℕ) (t u h s r : List ℕ) → r ≡ padded (product p (take n t) (take n u) (take n s)) → s ≡ padded (product p (take n t) (take n h) (take n h))
-    → h ≡ padded (power p (take n t) (take n u) (k / 2)) → 2 ≤ p → Holds p n t → Holds p n u → (k % 2 ≡ 0 → ⊥) → r ≡ padded (power p (take n t) (take n u) k)
+pub power-odd-array : (p n k : ℕ) (t u h s r : List ℕ) → r ≡ padded (product p (take n t) u (take n s)) → s ≡ padded (product p (take n t) (take n h) (take n h))
+    → h ≡ padded (power p (take n t) u (k / 2)) → 2 ≤ p → Holds p n t → Words p n u → (k % 2 ≡ 0 → ⊥) → r ≡ padded (power p (take n t) u k)
 power-odd-array p n k t u h s r g f e big x y z =
-    let i : take n h ≡ power p (take n t) (take n u) (k / 2) = front-is e (power-words big (x .words) (y .words) (k / 2)) in
+    let i : take n h ≡ power p (take n t) u (k / 2) = front-is e (power-words big (x .words) y (k / 2)) in
     let j : take n s ≡ product p (take n t) (take n h) (take n h) = front-is f (product-words big (x .words) (take n h) (power-holds p n (k / 2) t u h e big x y .words)) in
-    g ∙ ap padded (ap (product p (take n t) (take n u)) (j ∙ ap₂ (product p (take n t)) i i) ∙ power-odd big (x .words) (y .words) k z)
-
--- X^p
-
-pub x-holds : (p n : ℕ) (t x : List ℕ) → x ≡ padded (residueOfX p (take n t)) → 2 ≤ p → Holds p n t → Holds p n x
-x-holds p n t x e big h = holds-is e (residueOfX-words big (h .words))
-
-pub x-power : (p n k : ℕ) (t x r : List ℕ) → x ≡ padded (residueOfX p (take n t)) → r ≡ padded (power p (take n t) (take n x) k) → 2 ≤ p → Holds p n t
-    → r ≡ padded (power p (take n t) (residueOfX p (take n t)) k)
-x-power p n k t x r e f big h = f ∙ ap (λ l. padded (power p (take n t) l k)) (front-is e (residueOfX-words big (h .words)))
+    g ∙ ap padded (ap (product p (take n t) u) (j ∙ ap₂ (product p (take n t)) i i) ∙ power-odd big (x .words) y k z)

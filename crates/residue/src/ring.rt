@@ -5,7 +5,7 @@ use crate::delayed::times;
 ghost use mathlib.Core.Path.{_≡_};
 ghost use Prim.Native.Nat.{_+_, _-_, _*_, _/_, _%_, _^_, _≤_, _<_};
 ghost use lib.ListN.{getD, take, drop};
-ghost use Rattle.quotient.specs.Residue.{constant, product as productOf, power as powerOf, residueOfX, substitute as substituteOf};
+ghost use Rattle.quotient.specs.Residue.{constant, product as productOf, power as powerOf, residueOfX, timesX, substitute as substituteOf};
 ghost use Rattle.residue.specs.Array.{padded, Holds};
 ghost use Rattle.residue.specs.Delayed.{reduced, Delayed};
 
@@ -113,14 +113,49 @@ pub fn power(p: u64, n: usize, t: &[u64; 16], u: &[u64; 16], k: u64) -> [u64; 16
     }
 }
 
+// X·u modulo T: the words of u one place higher, and the opposite of the top word times t.
+fn times_x(p: u64, n: usize, t: &[u64; 16], u: &[u64; 16]) -> [u64; 16]
+    requires { ⌜ (2 ≤ p) × (p ≤ 2 ^ 20) × (1 ≤ n) × (n ≤ 16) ⌝ }
+    requires { ⌜ Holds p n (now t) × Holds p n (now u) ⌝ }
+    ensures { λ r. ⌜ r ≡ padded (timesX p (take n (now (t .entry))) (take n (now (u .entry)))) ⌝ }
+{
+    let q = p - u[n - 1];
+    let mut w = [0; 16];
+    let mut carry = 0;
+    let mut j = 0;
+    while j < n {
+        w[j] = (carry + times(q, t[j])) % p;
+        carry = u[j];
+        j += 1;
+    }
+    w
+}
+
+// X^k modulo T, from the power to half the exponent; an odd exponent takes one more multiplication by X.
+fn monomial(p: u64, n: usize, t: &[u64; 16], k: u64) -> [u64; 16]
+    requires { ⌜ (2 ≤ p) × (p ≤ 2 ^ 20) × (1 ≤ n) × (n ≤ 16) ⌝ }
+    requires { ⌜ Holds p n (now t) ⌝ }
+    ensures { λ r. ⌜ r ≡ padded (powerOf p (take n (now (t .entry))) (residueOfX p (take n (now (t .entry)))) k) ⌝ }
+{
+    if k == 0 {
+        return one(n);
+    }
+    let half = monomial(p, n, t, k / 2);
+    let square = product(p, n, t, &half, &half);
+    if k % 2 == 0 {
+        square
+    } else {
+        times_x(p, n, t, &square)
+    }
+}
+
 // X^p modulo T.
 pub fn power_of_x(p: u64, n: usize, t: &[u64; 16]) -> [u64; 16]
     requires { ⌜ (2 ≤ p) × (p ≤ 2 ^ 20) × (1 ≤ n) × (n ≤ 16) ⌝ }
     requires { ⌜ Holds p n (now t) ⌝ }
     ensures { λ r. ⌜ r ≡ padded (powerOf p (take n (now (t .entry))) (residueOfX p (take n (now (t .entry)))) p) ⌝ }
 {
-    let x = residue_of_x(p, n, t);
-    power(p, n, t, &x, p)
+    monomial(p, n, t, p)
 }
 
 // u(S) modulo T, by Horner's rule.

@@ -39,7 +39,7 @@ module _ (t : ℕ) where
   product-requires-2 c κs =
       let half = c .before .before .before .before .before in
       let given = half .before .before .pre .1 in
-      (search needs, (search needs, search needs, square-holds _ _ _ _ _ _ _ (c .before .before .product .ensures) (half .power .ensures) (given .0 .0) (given .1 .0) (given .1 .1)))
+      (search needs, (search needs, search needs, square-holds _ _ _ _ _ _ _ (c .before .before .product .ensures) (half .power .ensures) (given .0 .0) (given .1 .0) (given .1 .1 .words)))
 
   returns-2 : lts.Need-returns-2 (one.Asked, one.Learnt, power-below, power.Post, product.Asked, product.Learnt) power-at power.Post
   returns-2 c = search power-even-array
