@@ -1,17 +1,19 @@
 -- The theorems of cards: a written card reads back, a card that is read is the one that is written of its result, and the longest card.
 use mathlib.Core.Path.{_≡_, refl, ap, _∙_}
 use mathlib.Core.List.{List, _++_}
-use Prim.Native.Nat.{ℕ, _+_, _*_, _/_, _≤_}
+use Prim.Native.Nat.{ℕ, _+_, _-_, _*_, _/_, _≤_, _<_}
 use native.Mathlib.Nat.{mul-le-mul}
 use native.Mathlib.Omega.{arith}
 use lib.ListN.{length, replicate}
+use lib.Seq.{take-at}
 use borrow.Author.Tests.{le-ltb}
-use Rattle.algebra.specs.Lists.{range, first}
+use Rattle.algebra.specs.Lists.{All, range, first}
 use Rattle.card.specs.Bits.{unpacked}
-use Rattle.card.specs.Card.{width, wordCount, allBits, card, cardLength, cardPrime, cardDegree, cardKind, cardWords, readNumber, readPrime, readDegree, readKind, readOutput, writeNumber}
+use Rattle.card.specs.Card.{width, wordCount, allBits, card, cardLength, cardPrime, cardDegree, cardKind, cardWords, readNumber, readPrime, readDegree, readKind, readOutput, writeNumber, writeOutput}
 use Rattle.card.specs.Theorem.{Answer, WrittenReadsBack, ReadIsWritten, LongestCard}
 use Rattle.card.proofs.Lists.{zeros-pass}
 use Rattle.card.proofs.Width.{width-most}
+use Rattle.modular.specs.Refusal.{written}
 use Rattle.modular.proofs.Refusal.{prime-bounds, degree-given, given-degree}
 use Rattle.card.proofs.Conditions.{kind-bounds, length-is, length-good, words-below}
 use Rattle.card.proofs.Refusals.{Writable, writable, write-accepts, Readable, readable, read-accepts}
@@ -36,8 +38,8 @@ answer p n kind words ys out accepted prime degree kind-is words-are =
       words-are = rw (accepted, words-are);
     }
 
-pub written-reads-back : WrittenReadsBack
-written-reads-back p n kind words lent out accepted room =
+card-reads-back : (p n kind : ℕ) (words lent out : List ℕ) → writeNumber p n kind words lent ≡ 0 → length out ≡ 64 → Answer p n kind words (card p n kind words) out
+card-reads-back p n kind words lent out accepted room =
     let a : Writable p n kind words lent = writable p n kind words lent accepted in
     let p-bounds : (2 ≤ p) × (p ≤ 65535) = prime-bounds p (a .prime) in
     let n-bounds : (1 ≤ n) × (n ≤ 16) = degree-given n (a .degree) in
@@ -67,20 +69,44 @@ written-reads-back p n kind words lent out accepted room =
     kind-is
     words-are
 
+-- an accepted call writes the card
+written-card : (p n kind : ℕ) (words lent : List ℕ) → writeNumber p n kind words lent ≡ 0 → writeOutput p n kind words lent ≡ card p n kind words
+unfolding writeOutput
+written-card p n kind words lent accepted = ap (λ k. written k (card p n kind words) lent) accepted
+
+pub written-reads-back : WrittenReadsBack
+written-reads-back p n kind words lent out accepted room =
+    rw (written-card p n kind words lent accepted) (card-reads-back p n kind words lent out accepted room)
+
+module _ (ys out lent : List ℕ) (are-bytes : All (λ y. y < 256) ys) (accepted : readNumber ys out ≡ 0) (room : length lent ≡ length ys) where
+  -- the writer takes what the card says, and makes the card of it
+  card-is-written : (writeNumber (cardPrime ys) (cardDegree ys) (cardKind ys) (cardWords ys) lent ≡ 0)
+      × (writeOutput (cardPrime ys) (cardDegree ys) (cardKind ys) (cardWords ys) lent ≡ ys)
+  card-is-written =
+      let a : Readable ys out = readable ys out accepted in
+      let taken : writeNumber (cardPrime ys) (cardDegree ys) (cardKind ys) (cardWords ys) lent ≡ 0 =
+      write-accepts (cardPrime ys) (cardDegree ys) (cardKind ys) (cardWords ys) lent
+      (record {
+        prime = a .prime;
+        degree = given-degree (cardDegree ys) (degree-range ys are-bytes (a .size) .0) (degree-range ys are-bytes (a .size) .1);
+        kind-good = a .kind-good;
+        count = length-good (wordCount (cardDegree ys) (cardKind ys)) (cardWords ys) (count ys are-bytes (a .size));
+        size = length-good (cardLength (cardPrime ys) (cardDegree ys) (cardKind ys)) lent (room ∙ a .size);
+        below = a .below;
+      }) in
+      (taken, written-card (cardPrime ys) (cardDegree ys) (cardKind ys) (cardWords ys) lent taken ∙ written-again ys are-bytes (a .size) (a .fill))
+
+  result-is-written : (p n kind : ℕ) (words : List ℕ) → p ≡ cardPrime ys → n ≡ cardDegree ys → kind ≡ cardKind ys → words ≡ cardWords ys
+      → (writeNumber p n kind words lent ≡ 0) × (writeOutput p n kind words lent ≡ ys)
+  result-is-written p n kind words prime degree kind-is words-are = rw (prime, degree, kind-is, words-are) card-is-written
+
 pub read-is-written : ReadIsWritten
-read-is-written ys out are-bytes accepted =
-    let a : Readable ys out = readable ys out accepted in (
-      write-accepts (cardPrime ys) (cardDegree ys) (cardKind ys) (cardWords ys) ys
-          (record {
-            prime = a .prime;
-            degree = given-degree (cardDegree ys) (degree-range ys are-bytes (a .size) .0) (degree-range ys are-bytes (a .size) .1);
-            kind-good = a .kind-good;
-            count = length-good (wordCount (cardDegree ys) (cardKind ys)) (cardWords ys) (count ys are-bytes (a .size));
-            size = length-good (cardLength (cardPrime ys) (cardDegree ys) (cardKind ys)) ys (a .size);
-            below = a .below;
-          }),
-      written-again ys are-bytes (a .size) (a .fill),
-    )
+read-is-written ys out lent are-bytes accepted room =
+    let r : Answer (cardPrime ys) (cardDegree ys) (cardKind ys) (cardWords ys) ys out =
+    answer (cardPrime ys) (cardDegree ys) (cardKind ys) (cardWords ys) ys out accepted refl refl refl refl in
+    result-is-written ys out lent are-bytes accepted room _ _ _ _ (r .prime) (r .degree) (r .kind-is)
+    (rw (r .degree, r .kind-is, r .words-are)
+    (take-at (cardWords ys) (replicate (64 - length (cardWords ys)) 0) (wordCount (cardDegree ys) (cardKind ys)) (count ys are-bytes (readable ys out accepted .size))))
 
 pub longest-card : LongestCard
 unfolding cardLength width range first

@@ -1,13 +1,13 @@
--- What is proved of cards. `out` is any list that has the length which the call asks for.
+-- What is proved of cards. `lent` and `out` are any lists of the length that the call asks for.
 --   WrittenReadsBack   "A written card reads back as what was given"
 --   ReadIsWritten      "every card that the reader takes is the one the writer makes of its result"; so no two cards mean the same
 --   LongestCard        "The longest card has 131 bytes"
 use mathlib.Core.Path.{_≡_}
 use mathlib.Core.List.{List, _++_}
 use Prim.Native.Nat.{ℕ, _-_, _≤_, _<_}
-use lib.ListN.{length, replicate}
+use lib.ListN.{length, take, replicate}
 use Rattle.algebra.specs.Lists.{All}
-use Rattle.card.specs.Card.{card, cardLength, cardPrime, cardDegree, cardKind, cardWords, readNumber, readPrime, readDegree, readKind, readOutput, writeNumber}
+use Rattle.card.specs.Card.{wordCount, card, cardLength, readNumber, readPrime, readDegree, readKind, readOutput, writeNumber, writeOutput}
 
 pub record Answer (p n kind : ℕ) (words ys out : List ℕ) : Type 0 where
   pub accepted : readNumber ys out ≡ 0
@@ -19,13 +19,17 @@ pub record Answer (p n kind : ℕ) (words ys out : List ℕ) : Type 0 where
 abbrev pub WrittenReadsBack : Type 0
 WrittenReadsBack =
     (p n kind : ℕ) (words lent out : List ℕ) → writeNumber p n kind words lent ≡ 0 → length out ≡ 64
-    → Answer p n kind words (card p n kind words) out
+    → Answer p n kind words (writeOutput p n kind words lent) out
+
+-- the coefficients among the words that the reader writes
+abbrev pub readWords : List ℕ → List ℕ → List ℕ
+readWords ys out = take (wordCount (readDegree ys out) (readKind ys out)) (readOutput ys out)
 
 abbrev pub ReadIsWritten : Type 0
 ReadIsWritten =
-    (ys out : List ℕ) → All (λ y. y < 256) ys → readNumber ys out ≡ 0
-    → (writeNumber (cardPrime ys) (cardDegree ys) (cardKind ys) (cardWords ys) ys ≡ 0)
-    × (card (cardPrime ys) (cardDegree ys) (cardKind ys) (cardWords ys) ≡ ys)
+    (ys out lent : List ℕ) → All (λ y. y < 256) ys → readNumber ys out ≡ 0 → length lent ≡ length ys
+    → (writeNumber (readPrime ys out) (readDegree ys out) (readKind ys out) (readWords ys out) lent ≡ 0)
+    × (writeOutput (readPrime ys out) (readDegree ys out) (readKind ys out) (readWords ys out) lent ≡ ys)
 
 abbrev pub LongestCard : Type 0
 LongestCard =
