@@ -23,18 +23,18 @@ numberOf Empty = 0
 numberOf Loaded = 1
 numberOf Paired = 2
 
-abbrev pub sessionOf : SessionValue → Session
+unfoldable pub sessionOf : SessionValue → Session
 sessionOf v = record { state = stateOf (v .state); p = v .p; n = v .n; t1 = v .t1; t2 = v .t2; s = v .s; r = v .r }
 
-abbrev pub valueOf : Session → SessionValue
+unfoldable pub valueOf : Session → SessionValue
 valueOf x = record { state = numberOf (x .state); p = x .p; n = x .n; t1 = x .t1; t2 = x .t2; s = x .s; r = x .r }
 
-abbrev pub answerOf : ℕ → SessionValue → SessionValue → StepValue
+unfoldable pub answerOf : ℕ → SessionValue → SessionValue → StepValue
 answerOf zero next taken = record { number = 0; session = next }
 answerOf (suc k) next taken = record { number = suc k; session = taken }
 
-abbrev pub stepOf : SessionValue → Step → StepValue
+unfoldable pub stepOf : SessionValue → Step → StepValue
 stepOf v r = answerOf (r .number) (valueOf (r .session)) v
 
-abbrev pub convertedOf : SessionValue → Step → StepValue
+unfoldable pub convertedOf : SessionValue → Step → StepValue
 convertedOf v r = record { number = r .number; session = v }

@@ -69,15 +69,15 @@ pub fn step_of(v: SessionValue, step: Step) -> StepValue
     ensures { λ r. ⌜ r ≡ stepOf v step ⌝ }
 {
     let number = step.number;
+    let next = value_of(step.session);
     if number != 0 {
         return StepValue {
             number: number,
             session: v,
         };
     }
-    let next = step.session;
     StepValue {
         number: 0,
-        session: value_of(next),
+        session: next,
     }
 }
