@@ -2,6 +2,7 @@
 --   step-path         two answers with the same number and the same session are equal
 --   answer-number     the number of an answer
 --   answer-accepts    an answer with the number 0 has the next session
+--   answer-keeps      an answer with another number has the session taken
 use mathlib.Core.Path.{_≡_, refl}
 use Prim.Native.Nat.{ℕ, zero, suc}
 use native.Mathlib.Omega.{arith}
@@ -21,3 +22,8 @@ pub answer-accepts : (k : ℕ) (x y : Session) → answer k y x .number ≡ 0 �
 unfolding answer
 answer-accepts zero x y h = refl
 answer-accepts (suc k) x y h = absurd (omega arith)
+
+pub answer-keeps : (k : ℕ) (x y : Session) → (answer k y x .number ≡ 0 → ⊥) → answer k y x .session ≡ x
+unfolding answer
+answer-keeps zero x y h = absurd (h refl)
+answer-keeps (suc k) x y h = refl

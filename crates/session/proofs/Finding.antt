@@ -1,4 +1,5 @@
--- Find, by the tests of the code.
+-- Find, by the tests of the code: in a loaded session 1 to 4 do not apply, so that its number is the finder's; where that is 0 the two lists
+-- lent to the finder hold its pair.
 use mathlib.Core.Path.{_≡_, refl, sym, ap, ap₂, _∙_}
 use mathlib.Core.Bool.{true, not}
 use mathlib.Core.List.{List, [], _∷_, _++_}
@@ -20,10 +21,9 @@ use Rattle.session.specs.declared.Session.{Session}
 use Rattle.session.specs.declared.State.{State}
 use Rattle.session.specs.declared.State.the-variants.{Empty, Loaded, Paired}
 use Rattle.session.specs.declared.Step.{Step}
-use Rattle.session.proofs.Answer.{step-path, answer-number}
+use Rattle.session.proofs.Answer.{step-path, answer-number, answer-keeps}
 use Rattle.session.proofs.Reached.{found-accepted}
 use Rattle.session.proofs.Seen.{empty-seen, loaded-seen, paired-seen}
-use Rattle.session.proofs.Unchanged.{answer-keeps}
 use Rattle.session.proofs.Whole.{whole-given, whole-degree, front-lengths, front-words, lengths-after}
 
 -- the finder's pair in two lists, where 5, 6 and 7 do not apply

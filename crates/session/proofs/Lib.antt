@@ -1,14 +1,15 @@
 -- What is proved of sessions, and the laws on which the proofs of the functions rest.
+pub mod Answer
 pub mod Groups
+pub mod Table
 pub mod Unchanged
 pub mod Reached
-pub mod Table
 pub mod Again
 pub mod Refusals
 pub mod Whole
 pub mod Counts
 pub mod Seen
-pub mod Answer
+pub mod Values
 pub mod Loading
 pub mod Proposing
 pub mod Finding

@@ -1,15 +1,14 @@
--- Load, by the tests of the code.
+-- Load and clear, by the tests of the code.
 use mathlib.Core.Path.{_≡_, refl, sym, _∙_}
 use mathlib.Core.Bool.{Bool, true, false}
 use mathlib.Core.List.{List, [], _∷_}
 use Prim.Native.Nat.{ℕ, _≤_}
 use native.Mathlib.Omega.{arith}
-use lib.ListN.{length, replicate}
+use lib.ListN.{length}
 use Rattle.finder.specs.Theorem.{Models}
 use Rattle.modular.specs.Refusal.{refuse, badPrime, badDegree, badLength, badWord}
 use Rattle.quotient.proofs.Words.{words-length}
 use Rattle.quotient.proofs.Refusal.{refuse-none}
-use Rattle.residue.specs.Array.{padded}
 use Rattle.session.specs.Kind.{stateOf}
 use Rattle.session.specs.Session.{View, empty, loaded, paired, view, newSession, loadedSession, loadFrom, load, clear, answer}
 use Rattle.session.specs.declared.Session.{Session}
@@ -73,13 +72,8 @@ module _ (x : Session) (p n : ℕ) (t1 t2 : List ℕ) where
       pub t2-fits : length t2 ≤ 16
       t2-fits = omega (arith, words-length (accepted .0 .modulus2), accepted .0 .degree .1)
 
-      pub load-loads : (w1 w2 : List ℕ) → w1 ≡ padded t1 → w2 ≡ padded t2
-          → record {
-            number = 0;
-            session = record { state = Loaded; p = p; n = n; t1 = w1; t2 = w2; s = replicate 16 0; r = replicate 16 0 };
-          } ≡ load x p n t1 t2
-      unfolding loadedSession
-      load-loads w1 w2 f g = step-path (sym h ∙ e) (rw (f, g) (sym (accepted .1)))
+      pub load-loads : (y : Session) → y ≡ loadedSession p n t1 t2 → record { number = 0; session = y } ≡ load x p n t1 t2
+      load-loads y f = step-path (sym h ∙ e) (f ∙ sym (accepted .1))
 
 pub clear-is : (x y : Session) → y ≡ newSession → record { number = 0; session = y } ≡ clear x
 unfolding clear answer

@@ -1,17 +1,15 @@
 -- Propose, by the tests of the code: in a loaded session 1 and 2 do not apply, nor 3 and 4 to its models, so that its number is the checker's.
 use mathlib.Core.Path.{_≡_, refl, sym, _∙_}
-use mathlib.Core.Bool.{true, false, not, _&&_, and-eq-true-iff}
+use mathlib.Core.Bool.{true, not}
 use mathlib.Core.List.{List, [], _∷_}
 use Prim.Native.Nat.{ℕ, _≤_}
 use native.Mathlib.Omega.{arith}
-use lib.Dec.{eqb}
 use lib.ListN.{length, take}
-use borrow.Author.Tests.{eqb-true, not-false}
-use Rattle.algebra.specs.Lists.{all}
 use Rattle.modular.specs.Refusal.{refuse, badLength, badWord}
 use Rattle.pair.specs.Pair.{accepts, checkNumber}
-use Rattle.quotient.proofs.Refusal.{refuse-none}
-use Rattle.residue.specs.Array.{padded}
+use Rattle.quotient.proofs.Refusal.{refuse-none, words-given}
+use Rattle.quotient.proofs.Words.{words-length}
+use Rattle.quotient.specs.Residue.{Words}
 use Rattle.session.specs.Kind.{stateOf}
 use Rattle.session.specs.Session.{View, empty, loaded, paired, whole, view, pairedSession, answer, proposeFrom, propose}
 use Rattle.session.specs.declared.Session.{Session}
@@ -36,12 +34,6 @@ checks-pair p n k t1 t2 s r l1 l2 h e =
       lengths-after n (take n t1) (take n t2) (s ∷ r ∷ []) (front-lengths n t1 t2 (whole-degree p n xss h) l1 l2),
       words-after p (take n t1) (take n t2) (s ∷ r ∷ []) words,
     )
-
-two-lengths : (n : ℕ) (a b : List ℕ) → badLength n (a ∷ b ∷ []) ≡ false → (length a ≡ n) × (length b ≡ n)
-unfolding badLength all
-two-lengths n a b h =
-    let (first, rest) = and-eq-true-iff (eqb (length a) n) (eqb (length b) n && true) .0 (not-false (eqb (length a) n && (eqb (length b) n && true)) h) in
-    (eqb-true (length a) n first, eqb-true (length b) n (and-eq-true-iff (eqb (length b) n) true .0 rest .0))
 
 module _ (x : Session) (s r : List ℕ) where
   -- the number, by the state of what the session counts as
@@ -77,11 +69,13 @@ module _ (x : Session) (s r : List ℕ) where
           go (loaded p n t1 t2) z = refl
           go (paired p n t1 t2 u v) z = absurd (omega (arith, answer-number 24 x x))
 
-      pair-length : badLength (x .n) (s ∷ r ∷ []) ≡ false
+      pair-words : Words (x .p) (x .n) s × Words (x .p) (x .n) r
       unfolding propose proposeFrom
-      pair-length =
+      pair-words =
           let z = rw (loaded-seen x Loaded is-loaded refl .0) at (sym e ∙ h) in
-          refuse-none 2 (badLength (x .n) (s ∷ r ∷ [])) _ (sym (answer-number _ x _) ∙ z) .0
+          let (lengths, rest) = refuse-none 2 (badLength (x .n) (s ∷ r ∷ [])) _ (sym (answer-number _ x _) ∙ z) in
+          let words = words-given (x .p) (x .n) (s ∷ r ∷ []) lengths (refuse-none 3 (badWord (x .p) (s ∷ r ∷ [])) _ rest .0) in
+          (words .0, words .1 .0)
 
       session-is : propose x s r .session ≡ pairedSession (x .p) (x .n) (take (x .n) (x .t1)) (take (x .n) (x .t2)) s r
       unfolding propose proposeFrom
@@ -93,17 +87,11 @@ module _ (x : Session) (s r : List ℕ) where
       degree-fits = whole-degree (x .p) (x .n) _ (loaded-seen x Loaded is-loaded refl .1)
 
       pub s-fits : length s ≤ 16
-      s-fits = omega (arith, degree-fits, two-lengths (x .n) s r pair-length .0)
+      s-fits = omega (arith, degree-fits, words-length (pair-words .0))
 
       pub r-fits : length r ≤ 16
-      r-fits = omega (arith, degree-fits, two-lengths (x .n) s r pair-length .1)
+      r-fits = omega (arith, degree-fits, words-length (pair-words .1))
 
       pub propose-pairs : (y : Session) → y ≡ pairedSession (x .p) (x .n) (take (x .n) (x .t1)) (take (x .n) (x .t2)) s r
           → record { number = 0; session = y } ≡ propose x s r
       propose-pairs y f = step-path (sym h ∙ e) (f ∙ sym session-is)
-
--- the session with a pair
-pub paired-is : (p n : ℕ) (t1 t2 s r w1 w2 w3 w4 : List ℕ) → w1 ≡ padded t1 → w2 ≡ padded t2 → w3 ≡ padded s → w4 ≡ padded r
-    → record { state = Paired; p = p; n = n; t1 = w1; t2 = w2; s = w3; r = w4 } ≡ pairedSession p n t1 t2 s r
-unfolding pairedSession
-paired-is p n t1 t2 s r w1 w2 w3 w4 e1 e2 e3 e4 = rw (e1, e2, e3, e4)

@@ -1,17 +1,13 @@
 -- A refused call gives back the session it took, and a lent list holds what it held: the answer and the list go by the number alone.
-use mathlib.Core.Path.{_≡_, refl, ap}
+use mathlib.Core.Path.{_≡_, ap}
 use mathlib.Core.List.{List}
-use Prim.Native.Nat.{ℕ, zero, suc}
+use Prim.Native.Nat.{ℕ}
 use borrow.Author.Tests.{ne-eqb}
 use Rattle.modular.specs.Refusal.{pick, written}
-use Rattle.session.specs.Session.{View, empty, loaded, paired, view, answer, loadFrom, load, proposeFrom, propose, findFrom, find, convertNumber, convert, forwardOutput, backOutput}
+use Rattle.session.specs.Session.{View, empty, loaded, paired, view, loadFrom, load, proposeFrom, propose, findFrom, find, convertNumber, convert, forwardOutput, backOutput}
 use Rattle.session.specs.Theorem.{RefusalChangesNothing}
 use Rattle.session.specs.declared.Session.{Session}
-
-pub answer-keeps : (k : ℕ) (x y : Session) → (answer k y x .number ≡ 0 → ⊥) → answer k y x .session ≡ x
-unfolding answer
-answer-keeps zero x y h = absurd (h refl)
-answer-keeps (suc k) x y h = refl
+use Rattle.session.proofs.Answer.{answer-keeps}
 
 written-keeps : (k : ℕ) (new old : List ℕ) → (k ≡ 0 → ⊥) → written k new old ≡ old
 written-keeps k new old h = ap (λ b. pick b new old) (ne-eqb k 0 h)

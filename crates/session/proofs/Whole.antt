@@ -1,6 +1,6 @@
 -- What 1, 2 and 4 do not refuse: p is a prime up to 65,535, n is 1 to 16, and the first n words of arrays are lists of n words below p.
 --   whole-given, whole-size          none of the three conditions applies; the bounds of p and n
---   front-words, front-holds         the first n words of two arrays are residues, and so are the arrays that hold them
+--   front-words                      the first n words of two arrays are residues
 --   lengths-after, words-after       two lists that 3 or 4 does not refuse add no refusal to the lists after them
 use mathlib.Core.Path.{_≡_, sym}
 use mathlib.Core.Bool.{Bool, true, false, not, _&&_, and-eq-true-iff}
@@ -41,7 +41,7 @@ prefix-length n xs h = sym (length-take-le n xs h)
 pub prefix-short : (n : ℕ) (xs : List ℕ) → n ≤ 16 → length (take n xs) ≤ 16
 prefix-short n xs h = rw length-take (omega arith)
 
-pub front-length : (n : ℕ) (xs : List ℕ) → n ≤ 16 → length xs ≡ 16 → length (take n xs) ≡ n
+front-length : (n : ℕ) (xs : List ℕ) → n ≤ 16 → length xs ≡ 16 → length (take n xs) ≡ n
 front-length n xs h l = length-take-le n xs (omega arith)
 
 pub front-lengths : (n : ℕ) (xs ys : List ℕ) → n ≤ 16 → length xs ≡ 16 → length ys ≡ 16 → badLength n (take n xs ∷ take n ys ∷ []) ≡ false

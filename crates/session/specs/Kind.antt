@@ -1,4 +1,4 @@
--- The state of a view.
+-- The state of what a session counts as, by which the code goes.
 use Rattle.session.specs.Session.{View, empty, loaded, paired}
 use Rattle.session.specs.declared.State.{State}
 use Rattle.session.specs.declared.State.the-variants.{Empty, Loaded, Paired}

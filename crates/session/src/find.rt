@@ -2,14 +2,14 @@
 use crate::Session;
 use crate::State;
 use crate::Step;
-use crate::propose::paired;
+use crate::value::paired;
 use crate::view::counts_as;
 use finder::find::find as find_pair;
 ghost use mathlib.Core.Bool.{true};
 ghost use mathlib.Core.List.{[], _∷_};
 ghost use mathlib.Core.Path.{_≡_};
 ghost use lib.ListN.{take};
-ghost use Rattle.session.specs.Session.{loaded, whole, findFrom, find as findOf};
+ghost use Rattle.session.specs.Session.{loaded as loadedWith, whole, findFrom, find as findOf};
 
 // The answer in a session that counts as loaded with the first n words of T1 and T2, to which 1, 2 and 4 do not apply. The finder writes its pair
 // into s and r.
@@ -23,7 +23,7 @@ fn find_loaded(
     mut r: [u16; 16],
 ) -> Step
     requires { ⌜ whole p n (take n t1 ∷ take n t2 ∷ []) ≡ true ⌝ }
-    ensures { λ y. ⌜ y ≡ findFrom (loaded p n (take n t1) (take n t2)) x ⌝ }
+    ensures { λ y. ⌜ y ≡ findFrom (loadedWith p n (take n t1) (take n t2)) x ⌝ }
 {
     let k = n as usize;
     let number = find_pair(p, n, &t1[..k], &t2[..k], &mut s[..k], &mut r[..k]);

@@ -1,11 +1,18 @@
 // The session: a value that holds nothing, two models, or two models and a pair (document 01, "The session"). The calls take a session and
-// give the next one.
-mod array;
+// give the next one; none requires anything.
+//   load      Session::load: empty to loaded
+//   propose   Session::propose: loaded to paired with a pair that the checker accepts
+//   find      Session::find: loaded to paired with the finder's pair
+//   convert   Session::forward and Session::back: tables of residues
+//   view      what a value counts as
+//   refusal   the refusals that the calls share
+//   value     the values that the calls make
 mod convert;
 mod find;
 mod load;
 mod propose;
 mod refusal;
+mod value;
 mod view;
 
 ghost use mathlib.Core.Path.{_≡_};
@@ -55,6 +62,7 @@ impl Session {
             r: [0; 16],
         }
     }
+
     // Any state to empty; it never refuses.
     pub fn clear(self) -> Step
         ensures { λ r. ⌜ r ≡ clearOf self ⌝ }

@@ -2,9 +2,9 @@
 use crate::Session;
 use crate::State;
 use crate::Step;
-use crate::array::array;
 use crate::refusal::lists_number;
 use crate::refusal::size_number;
+use crate::value::loaded;
 use crate::view::counts_as;
 ghost use mathlib.Core.List.{[], _∷_};
 ghost use mathlib.Core.Path.{_≡_};
@@ -46,17 +46,7 @@ impl Session {
                 session: self,
             };
         }
-        let w1 = array(t1);
-        let w2 = array(t2);
-        let session = Session {
-            state: State::Loaded,
-            p: p,
-            n: n,
-            t1: w1,
-            t2: w2,
-            s: [0; 16],
-            r: [0; 16],
-        };
+        let session = loaded(p, n, t1, t2);
         Step {
             number: 0,
             session: session,

@@ -2,38 +2,16 @@
 use crate::Session;
 use crate::State;
 use crate::Step;
-use crate::array::array;
+use crate::value::paired;
 use crate::view::counts_as;
 use pair::checker::check;
 ghost use mathlib.Core.Bool.{true, not};
 ghost use mathlib.Core.List.{[], _∷_};
 ghost use mathlib.Core.Path.{_≡_};
-ghost use Prim.Native.Nat.{_≤_};
-ghost use lib.ListN.{length, take};
+ghost use lib.ListN.{take};
 ghost use Rattle.modular.specs.Refusal.{refuse, badLength, badWord};
 ghost use Rattle.pair.specs.Pair.{accepts};
-ghost use Rattle.session.specs.Session.{whole, pairedSession, propose as proposeOf};
-
-// The session with two models and a pair.
-pub fn paired(p: u32, n: u32, t1: [u16; 16], t2: [u16; 16], s: &[u16], r: &[u16]) -> Session
-    requires { ⌜ (n ≤ 16) × (length (now s) ≤ 16) × (length (now r) ≤ 16) ⌝ }
-    ensures { λ y. ⌜ y ≡ pairedSession p n (take n t1) (take n t2) (now (s .entry)) (now (r .entry)) ⌝ }
-{
-    let k = n as usize;
-    let w1 = array(&t1[..k]);
-    let w2 = array(&t2[..k]);
-    let w3 = array(s);
-    let w4 = array(r);
-    Session {
-        state: State::Paired,
-        p: p,
-        n: n,
-        t1: w1,
-        t2: w2,
-        s: w3,
-        r: w4,
-    }
-}
+ghost use Rattle.session.specs.Session.{whole, propose as proposeOf};
 
 // 3, 4 and 8, of a pair for two models to which 1, 2 and 4 do not apply: the answer of the checker.
 fn pair_number(p: u32, n: u32, t1: [u16; 16], t2: [u16; 16], s: &[u16], r: &[u16]) -> u32

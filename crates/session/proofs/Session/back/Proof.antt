@@ -1,4 +1,4 @@
--- `back` meets its contract.
+-- `back` meets its contract: the output is written only where the number is 0.
 use borrow.Author.Needs.{needs}
 use Rattle.session.proofs.Outputs.{convert-step, table-not-refused, back-given, back-done, back-kept}
 use Rattle.session.proofs.Session.back.Statement.{statement}

@@ -1,4 +1,4 @@
--- `find` meets its contract.
+-- `find` meets its contract, by the state that the session counts as.
 use borrow.Author.Needs.{needs}
 use Rattle.session.proofs.Finding.{find-empty, find-loaded, find-paired}
 use Rattle.session.proofs.Seen.{loaded-whole}

@@ -1,4 +1,4 @@
--- `forward` meets its contract.
+-- `forward` meets its contract: the output is written only where the number is 0.
 use borrow.Author.Needs.{needs}
 use Rattle.session.proofs.Outputs.{convert-step, table-not-refused, forward-given, forward-done, forward-kept}
 use Rattle.session.proofs.Session.forward.Statement.{statement}

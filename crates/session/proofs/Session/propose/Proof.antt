@@ -1,4 +1,4 @@
--- `propose` meets its contract.
+-- `propose` meets its contract: a refusal gives the session back, and where the number is 0 S and R have n words.
 use borrow.Author.Needs.{needs}
 use Rattle.session.proofs.Proposing.{propose-refused, degree-fits, s-fits, r-fits, propose-pairs}
 use Rattle.session.proofs.Session.propose.Statement.{statement}

@@ -1,4 +1,4 @@
--- `convert_group` meets its contract.
+-- `convert_group` meets its contract: one reduction for each word of the image.
 use borrow.Author.Needs.{needs}
 use Rattle.residue.proofs.Padded.{holds-is}
 use Rattle.session.proofs.Converting.{group-short, combination-holds, store-holds, group-done}

@@ -1,4 +1,4 @@
--- `convert_number` meets its contract.
+-- `convert_number` meets its contract, by the state that the session counts as.
 use borrow.Author.Needs.{needs}
 use Rattle.session.proofs.Outputs.{convert-empty, convert-loaded, paired-degree, convert-paired}
 use Rattle.session.proofs.convert.convert_number.Statement.{statement}

@@ -1,4 +1,4 @@
--- `convert_words` meets its contract.
+-- `convert_words` meets its contract: the arrays hold T and S.
 use native.Mathlib.Omega.{arith}
 use borrow.Author.Needs.{needs}
 use Prim.Native.Nat.{_≤_}

@@ -1,4 +1,4 @@
--- `find_loaded` meets its contract.
+-- `find_loaded` meets its contract: where the number is 0 the arrays begin with the finder's pair.
 use native.Mathlib.Omega.{arith}
 use borrow.Author.Needs.{needs}
 use mathlib.Core.List.{[]}
@@ -9,9 +9,28 @@ use Rattle.session.proofs.Whole.{prefix-length, prefix-short, whole-deg
 use Rattle.session.proofs.find.find_loaded.Statement.{statement}
 use Rattle.session.proofs.find.find_loaded.Tie as tie
 
+abbrev start : tie.Else1 → tie.Start
+start c = c .before .before .before .before .before .before .before .before
+
 -- after the call the arrays begin with the finder's pair
-pair : (c : tie.Else1) → Found (c .before .before .before .before .before .before .before .before .args .p) (c .before .before .before .before .before .before .before .before .args .n) (take (c .before .before .before .before .before .before .before .before .args .n) (c .before .before .before .before .before .before .before .before .args .t4)) (take (c .before .before .before .before .before .before .before .before .args .n) (c .before .before .before .before .before .before .before .before .args .t5)) (c .before .before .before .find .last .1 .1 .1 .1 .0) (c .before .before .before .find .last .1 .1 .1 .1 .1 .0)
-pair c = let a = c .before .before .before .before .before .before .before .before in found _ _ (a .args .t4) (a .args .t5) (omega arith) (omega arith) (a .pre) (a .args .t6) (a .args .t7) (omega arith) (omega arith) _ (c .before .before .before .find .ensures .0) (c .if1 .left) _ _ (c .before .before .before .find .ensures .1 .0) (c .before .before .before .find .ensures .1 .1)
+pair : (c : tie.Else1)
+    → Found
+    (start c .args .p)
+    (start c .args .n)
+    (take (start c .args .n) (start c .args .t4))
+    (take (start c .args .n) (start c .args .t5))
+    (c .before .before .before .find .last .1 .1 .1 .1 .0)
+    (c .before .before .before .find .last .1 .1 .1 .1 .1 .0)
+pair c =
+    let a = start c in
+    let call = c .before .before .before .find in
+    found _ _ (a .args .t4) (a .args .t5) (omega arith) (omega arith) (a .pre) (a .args .t6) (a .args .t7) (omega arith) (omega arith) _
+    (call .ensures .0)
+    (c .if1 .left)
+    _
+    _
+    (call .ensures .1 .0)
+    (call .ensures .1 .1)
 
 array-share-prefix-t1 : tie.Need-array-share-prefix-t1
 array-share-prefix-t1 c = let h : c .args .n ≤ 16 = search whole-degree in omega arith

@@ -1,4 +1,4 @@
--- `load_number` meets its contract.
+-- `load_number` meets its contract, by the state that the session counts as.
 use borrow.Author.Needs.{needs}
 use Rattle.session.proofs.Loading.{load-empty, load-loaded, load-paired}
 use Rattle.session.proofs.load.load_number.Statement.{statement}

@@ -1,4 +1,4 @@
--- `models_number` meets its contract.
+-- `models_number` meets its contract: the number for p and n comes first.
 use borrow.Author.Needs.{needs}
 use Rattle.session.proofs.Loading.{size-first, lists-next}
 use Rattle.session.proofs.load.models_number.Statement.{statement}

@@ -1,4 +1,4 @@
--- `pair_number` meets its contract.
+-- `pair_number` meets its contract: 1 and 2 do not apply, nor 3 and 4 to the models.
 use native.Mathlib.Omega.{arith}
 use borrow.Author.Needs.{needs}
 use Prim.Native.Nat.{_≤_}

@@ -1,4 +1,4 @@
--- `propose_number` meets its contract.
+-- `propose_number` meets its contract, by the state that the session counts as.
 use borrow.Author.Needs.{needs}
 use Rattle.session.proofs.Proposing.{propose-empty, propose-loaded, propose-paired}
 use Rattle.session.proofs.Seen.{loaded-whole}

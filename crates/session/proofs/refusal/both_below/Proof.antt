@@ -1,4 +1,4 @@
--- `both_below` meets its contract.
+-- `both_below` meets its contract: the second list decides where the words of the first are below p.
 use borrow.Author.Needs.{needs}
 use Rattle.session.proofs.Refusals.{first-not-below, second-decides}
 use Rattle.session.proofs.refusal.both_below.Statement.{statement}

@@ -1,4 +1,4 @@
--- `lists_number` meets its contract.
+-- `lists_number` meets its contract: each test decides one list.
 use borrow.Author.Needs.{needs}
 use Rattle.session.proofs.Refusals.{first-length, second-length, lists-given, lists-not-below}
 use Rattle.session.proofs.refusal.lists_number.Statement.{statement}

@@ -1,4 +1,4 @@
--- `size_number` meets its contract.
+-- `size_number` meets its contract: each test decides one of the two conditions.
 use borrow.Author.Needs.{needs}
 use Rattle.session.proofs.Refusals.{no-prime, degree-low, degree-high, size-given}
 use Rattle.session.proofs.refusal.size_number.Statement.{statement}

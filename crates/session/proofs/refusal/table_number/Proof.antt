@@ -1,4 +1,4 @@
--- `table_number` meets its contract.
+-- `table_number` meets its contract: the tests come in the order of the conditions.
 use borrow.Author.Needs.{needs}
 use Rattle.session.proofs.Refusals.{too-long, no-groups, other-length, table-given, table-not-below}
 use Rattle.session.proofs.refusal.table_number.Statement.{statement}

@@ -1,4 +1,4 @@
--- `counts_as` meets its contract.
+-- `counts_as` meets its contract, by the state that the value has.
 use borrow.Author.Needs.{needs}
 use Rattle.session.proofs.Counts.{counts-empty, counts-loaded, loaded-counts-empty, counts-paired, paired-counts-empty}
 use Rattle.session.proofs.view.counts_as.Statement.{statement}

@@ -1,4 +1,4 @@
--- `models_whole` meets its contract.
+-- `models_whole` meets its contract: where 1 and 2 do not apply, the words decide.
 use native.Mathlib.Omega.{arith}
 use borrow.Author.Needs.{needs}
 use Prim.Native.Nat.{_≤_}

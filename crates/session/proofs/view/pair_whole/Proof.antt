@@ -1,4 +1,4 @@
--- `pair_whole` meets its contract.
+-- `pair_whole` meets its contract: where nothing of the models is refused, the words of S and R decide.
 use native.Mathlib.Omega.{arith}
 use borrow.Author.Needs.{needs}
 use Prim.Native.Nat.{_≤_}
