@@ -4,14 +4,13 @@
 use mathlib.Core.Path.{_≡_, refl, sym}
 use mathlib.Core.Bool.{Bool, true, false, _||_, not, false≢true}
 use mathlib.Core.List.{List, [], _∷_}
-use Prim.Native.Nat.{ℕ, suc}
-use native.Mathlib.Omega.{arith}
+use Prim.Native.Nat.{ℕ}
 use lib.Dec.{ltb, eqb}
 use lib.ListN.{length}
 use borrow.Author.Tests.{eqb-true, eq-eqb, not-false}
 use Rattle.algebra.specs.Lists.{all}
 use Rattle.modular.proofs.Refusal.{refuse-none}
-use Rattle.modular.specs.Refusal.{refuse, badPrime, badDegree, badLength, badWord}
+use Rattle.modular.specs.Refusal.{badPrime, badDegree, badLength, badWord}
 use Rattle.card.specs.Card.{badKind, wordCount, cardLength, cardPrime, cardDegree, cardKind, cardWords, fillBits, readNumber, writeNumber}
 use Rattle.card.proofs.Lists.{isZero}
 

@@ -9,7 +9,7 @@
 --   cardPrime, cardDegree, cardKind, cardWords   what a byte string says, read as a card
 --   fillBits ys                the bits behind the coefficients
 --   readNumber, readPrime, readDegree, readKind, readOutput   the reader's answer: 3, 11, 1, 12, 11, 13, 4; refused, every other field is 0
-use mathlib.Core.Bool.{Bool, true, false, _&&_, _||_, not}
+use mathlib.Core.Bool.{Bool, _||_, not}
 use mathlib.Core.List.{List, [], _∷_, _++_}
 use Prim.Native.Nat.{ℕ, zero, suc, _+_, _-_, _*_, _/_, _^_}
 use lib.Dec.{ltb, eqb}

@@ -11,7 +11,7 @@ use Rattle.algebra.specs.Prime.{Prime}
 use Rattle.modular.specs.Refusal.{refuse}
 use Rattle.quotient.specs.DivisorTest.{hasDivisor}
 use Rattle.quotient.specs.Residue.{Words, scale, substitute}
-use Rattle.quotient.proofs.Words.{scale-words, substitute-words}
+use Rattle.quotient.proofs.Words.{scale-words}
 use Rattle.residue.specs.Array.{padded, Holds}
 use Rattle.residue.proofs.Padded.{front-is, holds-is}
 use Rattle.finder.specs.Construct.{Eigenvectors, pairNumber, FoundPair}

@@ -1,15 +1,14 @@
 -- The public call: what the refusals 1 to 4 leave, the copies between lists and arrays, and what the two lent lists hold at the end.
-use mathlib.Core.Path.{_≡_, refl, sym, ap, ap₂, subst, subst₂, _∙_}
-use mathlib.Core.Bool.{Bool, true, false, not, _&&_, and-self-left}
+use mathlib.Core.Path.{_≡_, refl, sym, ap, subst, subst₂, _∙_}
+use mathlib.Core.Bool.{Bool, true, false, not, and-self-left}
 use mathlib.Core.List.{List, [], _∷_}
 use mathlib.Core.Logic.{inl, inr}
-use Prim.Native.Nat.{ℕ, suc, _-_, _%_, _^_, _≤_, _<_}
+use Prim.Native.Nat.{ℕ, _-_, _%_, _^_, _≤_}
 use native.Mathlib.Omega.{arith}
 use lib.Dec.{eqb}
 use lib.ListN.{length, take}
 use borrow.Author.Tests.{eq-eqb, eqb-true, not-false}
 use Rattle.algebra.specs.Lists.{Member, all}
-use Rattle.algebra.specs.Prime.{Prime}
 use Rattle.algebra.proofs.Search.{member-of-all}
 use Rattle.modular.specs.Prime.{isPrime}
 use Rattle.modular.specs.Refusal.{refuse, badPrime, badDegree, badLength, badWord, allBelow, written}
@@ -22,7 +21,7 @@ use Rattle.residue.proofs.Answers.{output-new, output-old, words-up}
 use Rattle.residue.proofs.Padded.{front-is, holds-is}
 use Rattle.pair.proofs.Refusals.{first-stays}
 use Rattle.finder.specs.Construct.{pairNumber, FoundPair}
-use Rattle.finder.specs.Finder.{express, findS, findR, findNumber, findOutputS, findOutputR}
+use Rattle.finder.specs.Finder.{findS, findR, findNumber, findOutputS, findOutputR}
 use Rattle.finder.specs.System.{Independent}
 use Rattle.finder.specs.Theorem.{Models}
 use Rattle.finder.proofs.Express.{express-is}

@@ -3,10 +3,10 @@
 --   Lower p n w x m        x = w^m, and no w^k with 1 ≤ k < m is 1
 --   Tried s p n g w        s ≤ g < s + p, w = g^((p − 1)/n), and no j with s ≤ j < g has a power j^((p − 1)/n) of order n
 --   Kept p n w least x k   x = w^k, and `least` is the smallest of w, w², …, w^k that has order n
-use mathlib.Core.Path.{_≡_, refl, sym, ap, subst, _∙_}
+use mathlib.Core.Path.{_≡_, sym, ap, subst, _∙_}
 use mathlib.Core.Bool.{Bool, true, false, not, false≢true}
 use mathlib.Core.Logic.{⊎-elim}
-use Prim.Native.Nat.{ℕ, zero, suc, _+_, _-_, _*_, _/_, _%_, _^_, _≤_, _<_}
+use Prim.Native.Nat.{ℕ, _+_, _-_, _*_, _/_, _%_, _^_, _≤_, _<_}
 use native.Mathlib.Nat.{mod-eq-of-lt, mod-lt, mod-add-mod, add-mod-mod, add-mod-right, pow-zero, pow-succ', pow-suc, eq-or-lt-of-le}
 use native.Mathlib.Numerals.{add-one}
 use native.Mathlib.Omega.{arith}
@@ -14,7 +14,6 @@ use lib.Dec.{eqb}
 use borrow.Author.Tests.{eqb-true, eqb-false, not-true, not-false}
 use Rattle.algebra.proofs.Modulo.{mod-mul-mod}
 use Rattle.finder.specs.Finder.{zeta}
-use Rattle.finder.specs.Theorem.{Smallest}
 use Rattle.finder.specs.Root.{Decides, Admissible, OrderModulo}
 use Rattle.finder.proofs.Smallest.{smallest-unique}
 use Rattle.finder.proofs.Zeta.{zeta-is, order-positive}

@@ -1,23 +1,23 @@
 -- The system f(S) = b modulo T, whose matrix has the powers of S as columns: its row products are the words of f(S). So the one solution of
 -- a regular system is the f with f(S) = b, and a singular one would have some f ≠ 0 with f(S) = 0, against the independence of the powers.
 --   Turned k m c   the first k words of the matrix c are those of the table m, read by columns
-use mathlib.Core.Path.{_≡_, refl, sym, ap, ap₂, subst, _∙_}
+use mathlib.Core.Path.{_≡_, refl, sym, ap, ap₂, _∙_}
 use mathlib.Core.Bool.{Bool, true, false}
 use mathlib.Core.List.{List, [], _∷_, _++_}
-use Prim.Native.Nat.{ℕ, zero, suc, _+_, _-_, _*_, _/_, _%_, _≤_, _<_}
+use Prim.Native.Nat.{ℕ, suc, _+_, _-_, _*_, _/_, _%_, _≤_, _<_}
 use native.Mathlib.Decide.{ℕ-discrete}
 use native.Mathlib.Nat.{mod-eq-of-lt, zero-mod, mul-comm}
 use native.Mathlib.Omega.{arith}
 use lib.ListN.{length, getD, take, set, replicate, length-set, length-replicate, getD-replicate}
 use lib.Seq.{getD-set-same, getD-set-other, getD-take}
 use Rattle.algebra.specs.Prime.{Prime}
-use Rattle.linear.specs.System.{entry, rowProduct, Solves, Square, Vector, Regular, Singular, Outcome}
+use Rattle.linear.specs.System.{entry, rowProduct, Square, Vector, Singular, Outcome}
 use Rattle.linear.proofs.Vectors.{words-same, words-below}
 use Rattle.quotient.specs.Residue.{Words, constant, residueOfX, substitute}
 use Rattle.quotient.proofs.Substitution.{zero-substitute}
 use Rattle.quotient.proofs.Words.{words-length, constant-words, constant-zero, substitute-words, residueOfX-words}
 use Rattle.residue.specs.Array.{padded, Holds}
-use Rattle.residue.specs.Table.{Powers, Table}
+use Rattle.residue.specs.Table.{Powers}
 use Rattle.residue.proofs.Combination.{inner, substitute-word, table-of-powers}
 use Rattle.residue.proofs.Padded.{front-is, holds-is}
 use Rattle.finder.specs.Finder.{express}

@@ -2,10 +2,10 @@
 -- multiples of a solution by the powers of ζ.
 --   Scanned p n a1 a2 c             1 ≤ c < p, and no j with 1 ≤ j < c is a solution
 --   Least p n z a1 a2 y least x k   x = y·z^(k − 1) and `least`, the smallest of the y·z^j with j < k, are solutions
-use mathlib.Core.Path.{_≡_, refl, sym, ap, subst, _∙_}
+use mathlib.Core.Path.{_≡_, refl, sym, ap, _∙_}
 use mathlib.Core.Bool.{Bool, true, false, not}
 use mathlib.Core.Logic.{⊎-elim}
-use Prim.Native.Nat.{ℕ, zero, suc, _+_, _-_, _*_, _/_, _%_, _^_, _≤_, _<_}
+use Prim.Native.Nat.{ℕ, _+_, _-_, _*_, _/_, _%_, _^_, _≤_, _<_}
 use native.Mathlib.Nat.{mod-eq-of-lt, pow-zero, pow-suc, eq-or-lt-of-le, div-lt-self, div-le-self, div-add-mod', pos-of-ne-zero, mul-one, mul-assoc}
 use native.Mathlib.Numerals.{add-one}
 use native.Mathlib.Omega.{arith}
@@ -14,7 +14,6 @@ use borrow.Author.Tests.{eqb-true, eqb-false, not-true, not-false}
 use Rattle.algebra.proofs.Modulo.{mod-mul-mod}
 use Rattle.finder.specs.Finder.{ratio}
 use Rattle.finder.specs.Root.{Admissible, OrderModulo, Solvable}
-use Rattle.finder.specs.Theorem.{Smallest}
 use Rattle.finder.proofs.Ratio.{ratio-positive}
 use Rattle.finder.proofs.RootsOfUnity.{ratio-times, ratio-is-multiple}
 use Rattle.finder.proofs.Smallest.{smallest-unique}

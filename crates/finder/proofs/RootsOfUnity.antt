@@ -3,19 +3,18 @@
 -- g^((p − 1)/n) has order n, for g^((p − 1)/n) = w is solvable if w^n = 1.
 use mathlib.Core.Path.{_≡_, sym, ap, ap₂, subst, _∙_}
 use mathlib.Core.List.{List, _∷_, map}
-use Prim.Native.Nat.{ℕ, zero, suc, _+_, _-_, _*_, _/_, _%_, _^_, _≤_, _<_}
+use Prim.Native.Nat.{ℕ, zero, suc, _-_, _*_, _/_, _%_, _^_, _≤_, _<_}
 use native.Mathlib.Nat.{mul-comm, div-add-mod', pos-of-ne-zero, zero-mod, mod-eq-of-lt, pow-zero}
 use native.Mathlib.Omega.{arith}
 use lib.ListN.{length, length-map}
 use Rattle.algebra.specs.Lists.{Member, Distinct, range}
-use Rattle.algebra.specs.Prime.{Prime}
 use Rattle.algebra.specs.Ring.{CommutativeRing, Field, power}
 use Rattle.algebra.proofs.Modulo.{mul-mod-mod, mod-mul-mod}
 use Rattle.algebra.proofs.Lists.{member-all, map-member, distinct-map}
 use Rattle.algebra.proofs.Counting.{member?}
 use Rattle.algebra.proofs.Search.{range-length, range-bounds, range-distinct}
 use Rattle.algebra.proofs.RingLaws.{mul-assoc, mul-comm as ring-mul-comm, mul-one, power-mul, power-of-one, power-product, power-of-zero, zero-mul}
-use Rattle.algebra.proofs.FieldLaws.{mul-left-cancel, power-ne-zero}
+use Rattle.algebra.proofs.FieldLaws.{mul-left-cancel}
 use Rattle.algebra.proofs.PowerRoots.{power-root, power-roots-at-most}
 use Rattle.algebra.proofs.Order.{HasOrder, powers-distinct}
 use Rattle.modular.proofs.Field.{Below, wordRing, wordField, below-equal, zero-value, one-value, mul-value, power-value, nonzeroWords, nonzero-words, nonzero-words-length}

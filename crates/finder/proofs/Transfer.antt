@@ -6,7 +6,7 @@ use mathlib.Core.List.{List}
 use Prim.Native.Nat.{ℕ, suc, _≤_}
 use native.Mathlib.Omega.{arith}
 use Rattle.quotient.specs.Residue.{Words, constant, residueOfX, substitute, modulusAt}
-use Rattle.quotient.proofs.Words.{constant-words, substitute-words, modulusAt-words}
+use Rattle.quotient.proofs.Words.{constant-words, modulusAt-words}
 use Rattle.quotient.proofs.Substitution.{substitution-preserves, preserves-modulusAt, zero-substitute, modulusAt-x}
 use Rattle.finder.proofs.Express.{Independent}
 

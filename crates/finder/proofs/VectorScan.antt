@@ -2,7 +2,7 @@
 --   scaledWord p c u k   word k of c·u
 --   Leading n u i        no word of u before word i is different from 0
 --   Constant n u i       no word of u from word 1 to word i − 1 is different from 0
-use mathlib.Core.Path.{_≡_, refl, sym, ap, ap₂, subst, _∙_}
+use mathlib.Core.Path.{_≡_, refl, sym, ap, ap₂, _∙_}
 use mathlib.Core.Bool.{true, false, false≢true, true≢false}
 use mathlib.Core.List.{List, [], _∷_}
 use mathlib.Core.Logic.{⊎-elim}
@@ -11,10 +11,10 @@ use native.Mathlib.Nat.{eq-or-lt-of-le}
 use native.Mathlib.Numerals.{add-one}
 use native.Mathlib.Omega.{arith}
 use lib.ListN.{length, getD, take, drop, set, replicate, drop-of-length-le, getD-replicate}
-use lib.Seq.{drop-cons, getD-take, ext-getD, length-take-le}
+use lib.Seq.{drop-cons, getD-take, ext-getD}
 use Rattle.algebra.specs.Prime.{Prime}
 use Rattle.modular.specs.Inverse.{inverse}
-use Rattle.quotient.specs.Residue.{Words, scale, constant}
+use Rattle.quotient.specs.Residue.{scale, constant}
 use Rattle.quotient.proofs.Words.{words-length, constant-words}
 use Rattle.residue.specs.Array.{padded, Holds}
 use Rattle.residue.proofs.Padded.{holds-word, array-fits, padded-zeros, take-zeros, painted-array}

@@ -1,6 +1,5 @@
 // The eigenvector α of the p-th power, α^p = ζ·α modulo T, by the kernel of the linear map u ↦ u^p − ζ·u. It also decides whether T has a monic
 // divisor of degree 1 to n − 1: exactly then there is no such vector, or its n-th power is not a constant.
-ghost use mathlib.Core.Path.{_≡_};
 ghost use Prim.Native.Nat.{_^_, _≤_, _<_};
 ghost use lib.ListN.{take};
 ghost use Rattle.algebra.specs.Prime.{Prime};

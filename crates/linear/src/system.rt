@@ -1,5 +1,4 @@
 // Systems of n linear equations in n unknowns modulo p, by elimination column by column.
-ghost use mathlib.Core.Path.{_≡_};
 ghost use Prim.Native.Nat.{_≤_, _<_};
 ghost use lib.ListN.{take};
 ghost use Rattle.algebra.specs.Prime.{Prime};

@@ -9,7 +9,7 @@ use native.Mathlib.Nat as Nat
 use native.Mathlib.Omega.{arith}
 use Rattle.algebra.proofs.Modulo.{add-mod-cancel}
 use Rattle.algebra.proofs.RingLaws.{mul-zero}
-use Rattle.quotient.specs.Residue.{Words, none, more, sum, scale, constant, shift, top, timesX, product, power, residueOfX, substitute, modulusAt}
+use Rattle.quotient.specs.Residue.{Words, none, more, sum, scale, constant, shift, top, timesX, product, residueOfX, substitute, modulusAt}
 use Rattle.quotient.proofs.Ring.{residueRing, zeroResidue, constantResidue, mulResidue}
 use Rattle.quotient.proofs.Sums.{sum-zero}
 use Rattle.quotient.proofs.Words as Words

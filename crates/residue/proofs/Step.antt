@@ -1,6 +1,6 @@
 -- The loop of a step of Horner's rule with delayed reduction: no sum overflows, each entry grows by at most 2^42, and the array at the
 -- loop's end is that of the next step.
-use mathlib.Core.Path.{_≡_, refl, sym, ap, ap₂, subst, _∙_}
+use mathlib.Core.Path.{_≡_, refl, sym, ap, subst, _∙_}
 use mathlib.Core.List.{List, [], _∷_}
 use Prim.Native.Nat.{ℕ, zero, suc, _+_, _-_, _*_, _%_, _^_, _≤_, _<_}
 use native.Mathlib.Nat as Nat

@@ -7,7 +7,7 @@
 --   BackAgain                   in a session that calls have made, back after forward gives every table again, and forward after back
 use mathlib.Core.Path.{_≡_}
 use mathlib.Core.List.{List, [], _∷_}
-use Prim.Native.Nat.{ℕ, zero, suc, _*_, _<_}
+use Prim.Native.Nat.{ℕ, suc, _*_, _<_}
 use lib.ListN.{length, take, drop}
 use Rattle.finder.specs.Theorem.{Models}
 use Rattle.pair.specs.Pair.{checkNumber}

@@ -1,5 +1,4 @@
 use borrow.Author.Needs.{needs}
-use native.Mathlib.Omega.{arith}
 use Rattle.finder.proofs.Constructed.{zeta-has-order, refused-first, refused-second, eigenvectors-are}
 use Rattle.finder.proofs.construct.construct.Statement.{statement}
 use Rattle.finder.proofs.construct.construct.Tie as tie

@@ -1,5 +1,4 @@
 use borrow.Author.Needs.{needs}
-use native.Mathlib.Omega.{arith}
 use Rattle.finder.proofs.Constructed.{admissible, refused-degree}
 use Rattle.finder.proofs.construct.find_pair.Statement.{statement}
 use Rattle.finder.proofs.construct.find_pair.Tie as tie

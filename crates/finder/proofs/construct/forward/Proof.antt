@@ -1,5 +1,4 @@
 use borrow.Author.Needs.{needs}
-use native.Mathlib.Omega.{arith}
 use Rattle.finder.proofs.Constructed.{zeta-small, zeta-order, ratio-solvable, alpha1-holds, alpha2-holds, alpha1-independent, express-holds, multiple-holds, forward-is}
 use Rattle.finder.proofs.construct.forward.Statement.{statement}
 use Rattle.finder.proofs.construct.forward.Tie as tie

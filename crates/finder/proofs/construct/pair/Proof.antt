@@ -1,5 +1,4 @@
 use borrow.Author.Needs.{needs}
-use native.Mathlib.Omega.{arith}
 use Rattle.finder.proofs.Constructed.{forward-holds, forward-independent, pair-is}
 use Rattle.finder.proofs.construct.pair.Statement.{statement}
 use Rattle.finder.proofs.construct.pair.Tie as tie

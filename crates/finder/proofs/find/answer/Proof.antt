@@ -1,5 +1,4 @@
 use borrow.Author.Needs.{needs}
-use native.Mathlib.Omega.{arith}
 use Rattle.finder.proofs.FindAnswer.{first-short, second-short, first-holds, second-holds, answer-is}
 use Rattle.finder.proofs.find.answer.Statement.{statement}
 use Rattle.finder.proofs.find.answer.Tie as tie

@@ -1,5 +1,4 @@
 use borrow.Author.Needs.{needs}
-use native.Mathlib.Omega.{arith}
 use Rattle.finder.proofs.FindAnswer.{find-refused, forward-kept, backward-kept, models, forward-size, backward-size, find-answered, forward-output, backward-output}
 use Rattle.finder.proofs.find.find.Statement.{statement}
 use Rattle.finder.proofs.find.find.Tie as tie

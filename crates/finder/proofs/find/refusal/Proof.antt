@@ -1,5 +1,4 @@
 use borrow.Author.Needs.{needs}
-use native.Mathlib.Omega.{arith}
 use Rattle.finder.proofs.FindAnswer.{refusal-is}
 use Rattle.finder.proofs.find.refusal.Statement.{statement}
 use Rattle.finder.proofs.find.refusal.Tie as tie

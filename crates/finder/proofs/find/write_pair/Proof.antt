@@ -1,5 +1,4 @@
 use borrow.Author.Needs.{needs}
-use native.Mathlib.Omega.{arith}
 use Rattle.finder.proofs.FindAnswer.{kept, out-short, forward-stores, forward-stored, backward-stores, backward-stored, number-of}
 use Rattle.finder.proofs.find.write_pair.Statement.{statement}
 use Rattle.finder.proofs.find.write_pair.Tie as tie

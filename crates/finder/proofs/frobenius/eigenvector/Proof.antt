@@ -1,5 +1,4 @@
 use borrow.Author.Needs.{needs}
-use native.Mathlib.Omega.{arith}
 use Rattle.finder.proofs.KernelAnswer.{answer-none, kernel-not-zero, vector-holds, power-holds, answer-found}
 use Rattle.finder.proofs.frobenius.eigenvector.Statement.{statement}
 use Rattle.finder.proofs.frobenius.eigenvector.Tie as tie

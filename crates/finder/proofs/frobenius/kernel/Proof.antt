@@ -1,5 +1,4 @@
 use borrow.Author.Needs.{needs}
-use native.Mathlib.Omega.{arith}
 use Rattle.finder.proofs.FrobeniusSystem.{zero-vector, power-x-holds, power-x-square, kernel-square, kernel-is}
 use Rattle.finder.proofs.frobenius.kernel.Statement.{statement}
 use Rattle.finder.proofs.frobenius.kernel.Tie as tie

@@ -1,5 +1,4 @@
 use borrow.Author.Needs.{needs}
-use native.Mathlib.Omega.{arith}
 use Prim.Native.Nat.{_-_}
 use Rattle.finder.proofs.FrobeniusSystem.{Diagonal, diagonal-start, diagonal-below, diagonal-turn, diagonal-end}
 use Rattle.finder.proofs.frobenius.minus.Statement.{statement}

@@ -1,5 +1,4 @@
 use borrow.Author.Needs.{needs}
-use native.Mathlib.Omega.{arith}
 use Prim.Native.Nat.{_<_}
 use Rattle.finder.proofs.RootScan.{index-positive, index-small}
 use Rattle.finder.proofs.root.candidate.Statement.{statement}

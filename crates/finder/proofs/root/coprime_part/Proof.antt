@@ -1,5 +1,4 @@
 use borrow.Author.Needs.{needs}
-use native.Mathlib.Omega.{arith}
 use Prim.Native.Nat.{_+_, _-_, _≤_}
 use Rattle.finder.proofs.RootScan.{quotient-positive, quotient-less, quotient-small}
 use Rattle.finder.proofs.root.coprime_part.Statement.{statement}

@@ -1,5 +1,4 @@
 use borrow.Author.Needs.{needs}
-use native.Mathlib.Omega.{arith}
 use Prim.Native.Nat.{_+_, _*_, _-_, _≤_}
 use Rattle.finder.proofs.root.inverse_of_degree.Statement.{statement}
 use Rattle.finder.proofs.root.inverse_of_degree.Tie as tie

@@ -1,5 +1,4 @@
 use borrow.Author.Needs.{needs}
-use native.Mathlib.Omega.{arith}
 use Prim.Native.Nat.{_-_}
 use Rattle.finder.proofs.RootScan.{Scanned, scan-start, scan-turn, scan-end, candidate-solves}
 use Rattle.finder.proofs.root.solution.Statement.{statement}

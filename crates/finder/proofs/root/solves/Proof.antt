@@ -1,5 +1,4 @@
 use borrow.Author.Needs.{needs}
-use native.Mathlib.Omega.{arith}
 use Rattle.finder.proofs.RootScan.{solves-test}
 use Rattle.finder.proofs.root.solves.Statement.{statement}
 use Rattle.finder.proofs.root.solves.Tie as tie

@@ -1,5 +1,4 @@
 use borrow.Author.Needs.{needs}
-use native.Mathlib.Omega.{arith}
 use Prim.Native.Nat.{_-_}
 use Rattle.finder.proofs.PowerSystem.{Turned, turned-start, turned-turn, turned-end}
 use Rattle.finder.proofs.system.columns.Statement.{statement}

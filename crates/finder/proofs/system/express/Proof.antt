@@ -1,5 +1,4 @@
 use borrow.Author.Needs.{needs}
-use native.Mathlib.Omega.{arith}
 use Rattle.finder.proofs.PowerSystem.{columns-square, right-side, expressed}
 use Rattle.finder.proofs.system.express.Statement.{statement}
 use Rattle.finder.proofs.system.express.Tie as tie

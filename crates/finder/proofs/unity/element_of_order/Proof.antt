@@ -1,5 +1,4 @@
 use borrow.Author.Needs.{needs}
-use native.Mathlib.Omega.{arith}
 use Prim.Native.Nat.{_+_, _-_}
 use Rattle.finder.proofs.OrderScan.{Tried, base-fits, tried-start, tried-turn, tried-end}
 use Rattle.finder.proofs.unity.element_of_order.Statement.{statement}

@@ -1,5 +1,4 @@
 use borrow.Author.Needs.{needs}
-use native.Mathlib.Omega.{arith}
 use Prim.Native.Nat.{_-_}
 use Rattle.finder.proofs.OrderScan.{Lower, lower-start, lower-turn, lower-found, lower-end}
 use Rattle.finder.proofs.unity.has_order.Statement.{statement}

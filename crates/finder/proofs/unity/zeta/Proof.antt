@@ -1,5 +1,4 @@
 use borrow.Author.Needs.{needs}
-use native.Mathlib.Omega.{arith}
 use mathlib.Core.Logic.{⊎-elim}
 use Prim.Native.Nat.{_-_}
 use Rattle.finder.proofs.OrderScan.{Kept, kept-start, kept-above, kept-lower, kept-other, kept-end}

@@ -1,5 +1,4 @@
 use borrow.Author.Needs.{needs}
-use native.Mathlib.Omega.{arith}
 use Prim.Native.Nat.{_-_}
 use Rattle.finder.proofs.VectorScan.{Constant, constant-start, constant-turn, constant-fails, constant-holds}
 use Rattle.finder.proofs.vector.is_constant.Statement.{statement}

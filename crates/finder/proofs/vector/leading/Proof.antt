@@ -1,5 +1,4 @@
 use borrow.Author.Needs.{needs}
-use native.Mathlib.Omega.{arith}
 use Prim.Native.Nat.{_-_}
 use Rattle.finder.proofs.VectorScan.{Leading, leading-start, leading-turn, leading-found, leading-none}
 use Rattle.finder.proofs.vector.leading.Statement.{statement}

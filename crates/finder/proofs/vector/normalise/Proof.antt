@@ -1,5 +1,4 @@
 use borrow.Author.Needs.{needs}
-use native.Mathlib.Omega.{arith}
 use Rattle.finder.proofs.VectorScan.{leading-positive-word, leading-small-word, normalised-is}
 use Rattle.finder.proofs.vector.normalise.Statement.{statement}
 use Rattle.finder.proofs.vector.normalise.Tie as tie
