@@ -108,15 +108,22 @@ read-is-written ys out lent are-bytes accepted room =
     (rw (r .degree, r .kind-is, r .words-are)
     (take-at (cardWords ys) (replicate (64 - length (cardWords ys)) 0) (wordCount (cardDegree ys) (cardKind ys)) (count ys are-bytes (readable ys out accepted .size))))
 
+-- at most 64 coefficients of 16 bits behind a header of three bytes
+pub length-most : (p n kind : ℕ) → p ≤ 65535 → n ≤ 16 → kind ≤ 2 → cardLength p n kind ≤ 131
+unfolding cardLength
+length-most p n kind p-most n-most kind-most =
+    let lists-most : 2 * kind ≤ 4 = omega arith in
+    let words-most : 2 * kind * n ≤ 64 = mul-le-mul lists-most n-most in
+    let bits-most : 2 * kind * n * width p ≤ 64 * 16 = mul-le-mul words-most (width-most p p-most) in
+    omega arith
+
 pub longest-card : LongestCard
 unfolding cardLength width range first
 longest-card = (longest, refl)
   where
     longest : (p n kind : ℕ) (words out : List ℕ) → writeNumber p n kind words out ≡ 0 → (length (card p n kind words) ≡ cardLength p n kind) × (cardLength p n kind ≤ 131)
     longest p n kind words out accepted =
-        let a : Writable p n kind words out = writable p n kind words out accepted in
-        let k-bounds : (1 ≤ kind) × (kind ≤ 2) = kind-bounds kind (a .kind-good) in
-        let lists-most : 2 * kind ≤ 4 = omega arith in
-        let words-most : 2 * kind * n ≤ 64 = mul-le-mul lists-most (degree-given n (a .degree) .1) in
-        let bits-most : 2 * kind * n * width p ≤ 64 * 16 = mul-le-mul words-most (width-most p (prime-bounds p (a .prime) .1)) in
-        (written-length p n kind words (length-is (wordCount n kind) words (a .count)), omega arith)
+        let a : Writable p n kind words out = writable p n kind words out accepted in (
+          written-length p n kind words (length-is (wordCount n kind) words (a .count)),
+          length-most p n kind (prime-bounds p (a .prime) .1) (degree-given n (a .degree) .1) (kind-bounds kind (a .kind-good) .1),
+        )

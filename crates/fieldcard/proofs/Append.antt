@@ -1,5 +1,5 @@
--- Lists written one behind another: `Appended` joins them, and a loop that writes element by element has written the list at its end.
---   Begins   what has been written from place 0 on
+-- Lists written one behind another: what is appended twice is appended together, so a loop that appends element by element has appended the list at
+-- its end.
 use mathlib.Core.Path.{_≡_, refl, sym, ap, _∙_}
 use mathlib.Core.List.{List, [], _∷_, _++_, append-nil, append-assoc}
 use Prim.Native.Nat.{ℕ, _+_, _≤_, _<_}
@@ -24,7 +24,7 @@ append-both at m r xs ys before between after h k =
       list-is = k .list-is ∙ ap (λ l. l ++ ys) (h .list-is) ∙ append-assoc (take at before) xs ys;
     }
 
--- a loop that writes the image of a list under f, element by element
+-- a loop that appends the image of a list under f, element by element
 module _ (f : List ℕ → List ℕ) (joins : (xs ys : List ℕ) → f (xs ++ ys) ≡ f xs ++ f ys) where
   pub append-next : (at i m r : ℕ) (xs before between after : List ℕ) → Appended at (f (take i xs)) before between m → i < length xs
       → Appended m (f (getD xs i 0 ∷ [])) between after r → Appended at (f (take (i + 1) xs)) before after r
@@ -35,11 +35,12 @@ module _ (f : List ℕ → List ℕ) (joins : (xs ys : List ℕ) → f (xs ++ ys
       → Appended at (f xs) before after m
   append-all at i m xs before after h l k = let same : i ≡ length xs = omega arith in rw (same, take-length) at h
 
+-- before turn i there is room for element i
 pub append-room : (at i m : ℕ) (xs before after : List ℕ) → Appended at (take i xs) before after m → i < length xs → length after ≡ length before
     → at + length xs ≤ length before → m < length after
 append-room at i m xs before after h l same room = omega (arith, h .end-is, length-take-le i xs (omega arith))
 
--- the first k elements are k
+-- the length of a part that is lent from the start of a list
 pub prefix-length : (k : ℕ) (xs : List ℕ) → k ≤ length xs → k ≡ length (take k xs)
 prefix-length k xs h = sym (length-take-le k xs h)
 

@@ -1,4 +1,4 @@
--- Digits: two hexadecimal digits for each byte, and at most two decimal digits.
+-- Digits: two hexadecimal digits for each byte, in its order, and at most two decimal digits.
 use mathlib.Core.Path.{_≡_, refl, ap}
 use mathlib.Core.Bool.{Bool, true, false}
 use mathlib.Core.List.{List, [], _∷_, _++_}
@@ -22,6 +22,7 @@ unfolding hexadecimal
 hexadecimal-length [] = refl
 hexadecimal-length (x ∷ xs) = omega (arith, hexadecimal-length xs)
 
+-- before turn i there is room for the digits of byte i
 pub hexadecimal-room : (at i m : ℕ) (xs before after : List ℕ) → Appended at (hexadecimal (take i xs)) before after m → i < length xs → length after ≡ length before
     → at + 2 * length xs ≤ length before → m + 2 ≤ length after
 hexadecimal-room at i m xs before after h l same room = omega (arith, h .end-is, hexadecimal-length (take i xs), length-take-le i xs (omega arith))
@@ -34,6 +35,7 @@ pub digit-high : (d : ℕ) → 10 ≤ d → 55 + d ≡ hexadecimalDigit d
 unfolding hexadecimalDigit
 digit-high d h = rw (le-ltb d 10 h)
 
+-- two digits, one behind the other
 module _ (at m r a b : ℕ) (before between after : List ℕ) (h : Appended at (a ∷ []) before between m) (k : Appended m (b ∷ []) between after r) where
   both : Appended at (a ∷ b ∷ []) before after r
   both = append-both at m r (a ∷ []) (b ∷ []) before between after h k

@@ -1,4 +1,4 @@
--- The words of a job after the finder's pair is written behind T1 and T2.
+-- The words of a job after the finder's pair is written behind T1 and T2: the two lists that are lent have n zeros, and the finder keeps their lengths.
 use mathlib.Core.Path.{_≡_, sym, ap, ap₂, _∙_}
 use mathlib.Core.List.{List, _++_, append-assoc}
 use Prim.Native.Nat.{ℕ, _+_, _*_, _≤_}

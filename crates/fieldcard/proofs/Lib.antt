@@ -1,4 +1,5 @@
--- What the program prints: the text, list by list.
+-- The text: list by list (Append, Digits, Lines), the pair card of a job (Parts, Found, Writable, PairCard), and what is printed (Numbers, Printed,
+-- Reading, LongInput).
 pub mod Append
 pub mod Digits
 pub mod Lines

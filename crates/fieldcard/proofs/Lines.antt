@@ -9,6 +9,7 @@ use Rattle.fieldcard.specs.Text.{Appended, Begins, pairLine}
 use Rattle.fieldcard.proofs.Append.{append-both, begins}
 use Rattle.fieldcard.proofs.Digits.{decimal-length, hexadecimal-length}
 
+-- three lists, one behind another
 three : {m k r : ℕ} {xs ys zs t t1 t2 t3 : List ℕ} → Appended 0 xs t t1 m → Appended m ys t1 t2 k → Appended k zs t2 t3 r
     → length xs + (length ys + length zs) ≤ length t3 → Begins (xs ++ (ys ++ zs)) t3 r
 three {m} {k} {r} {xs} {ys} {zs} {t} {t1} {t2} {t3} a b c room =

@@ -15,7 +15,8 @@ use Rattle.algebra.specs.Lists.{all}
 use Rattle.modular.specs.Refusal.{refuse, badPrime, badLength}
 use Rattle.card.specs.Bits.{bits, number, unpacked}
 use Rattle.card.specs.Card.{badKind, cardLength, cardPrime, cardDegree, cardKind, fieldAt, readNumber}
-use Rattle.card.proofs.Conditions.{prime-bounds, kind-bounds}
+use Rattle.card.proofs.Conditions.{kind-bounds}
+use Rattle.modular.proofs.Refusal.{prime-bounds}
 use Rattle.card.proofs.Packed.{unpacked-length}
 use Rattle.card.proofs.Theorem.{length-most}
 use Rattle.fieldcard.specs.Answer.{refusedText, answerText}
@@ -48,7 +49,7 @@ long-number ys h = rw (le-ltb (length ys) 3 (omega arith)) (go (badPrime (cardPr
         length-most (cardPrime ys) (cardDegree ys) (cardKind ys) (prime-bounds (cardPrime ys) e .1) (degree-most ys (omega arith)) (kind-bounds (cardKind ys) f .1) in
         rw (ne-eqb (length ys) (cardLength (cardPrime ys) (cardDegree ys) (cardKind ys)) (λ s. omega arith))
 
--- a field of the first bytes
+-- bytes that follow change no field of the bytes before them
 
 unpacked-append : (xs zs : List ℕ) → unpacked (xs ++ zs) ≡ unpacked xs ++ unpacked zs
 unfolding unpacked

@@ -7,7 +7,8 @@ use lib.ListN.{length, take, drop, replicate, length-append}
 use lib.Seq.{take-at, length-take-le}
 use Rattle.modular.specs.Refusal.{written}
 use Rattle.card.specs.Card.{width, card, cardLength, writeNumber, writeOutput}
-use Rattle.card.proofs.Conditions.{prime-bounds, degree-bounds, length-is, length-good}
+use Rattle.card.proofs.Conditions.{length-is, length-good}
+use Rattle.modular.proofs.Refusal.{prime-bounds, degree-given}
 use Rattle.card.proofs.Refusals.{Writable, writable, write-accepts}
 use Rattle.card.proofs.Theorem.{longest-card}
 use Rattle.fieldcard.specs.Text.{Begins}
@@ -24,7 +25,7 @@ module _ (p n : ℕ) (words : List ℕ) (h : writeNumber p n 2 words (replicate 
   word-count = length-is (4 * n) words (fit .count)
 
   pub words-few : length words ≤ 64
-  words-few = omega (arith, word-count, degree-bounds n (fit .degree) .1)
+  words-few = omega (arith, word-count, degree-given n (fit .degree) .1)
 
   -- the writer takes every list of the card's length
   accepted : (out : List ℕ) → length out ≡ cardLength p n 2 → writeNumber p n 2 words out ≡ 0

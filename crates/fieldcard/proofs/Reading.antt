@@ -1,5 +1,6 @@
 -- What the program prints, from what the reader says of the card: the line of a refusal, or what follows for a job or for a pair card.
 --   numberThen k rest   the reader's number k, or the number that follows where it is 0
+--   follows ys          the number of the job or of the pair
 --   textOf ys           what is printed where no refusal applies
 use mathlib.Core.Path.{_≡_, refl, sym, ap, _∙_}
 use mathlib.Core.List.{List, _++_}
@@ -53,6 +54,7 @@ module _ (ys : List ℕ) where
   unfolding cardWords
   word-count = fields-length (unpacked ys) 24 (width (cardPrime ys)) (wordCount (cardDegree ys) (cardKind ys))
 
+  -- n − 1 has four bits
   pub degree-most : 3 ≤ length ys → cardDegree ys ≤ 16
   unfolding cardDegree
   degree-most h = omega (arith, field-below (unpacked ys) (unpacked-binary ys) 16 4 (omega (arith, unpacked-length ys)))

@@ -34,10 +34,12 @@ first-four false false false true rest h = h
 first-four false false false false rest h = refl
 
 module _ (p n : ℕ) (t1 t2 lentS lentR : List ℕ) (none : findNumber p n t1 t2 lentS lentR ≡ 0) where
+  -- 1 to 4 do not apply
   two-models : Models p n t1 t2
   unfolding findNumber
   two-models = models p n _ t1 t2 lentS lentR refl (first-four (badPrime p) (badDegree n) (badLength n (t1 ∷ t2 ∷ lentS ∷ lentR ∷ [])) (badWord p (t1 ∷ t2 ∷ [])) _ none)
 
+  -- the checker accepts what is found, so S and R have n words below p
   accepted : Given p n t1 t2 (findS p n t1 t2) (findR p n t1 t2)
   unfolding findOutputS findOutputR
   accepted =
