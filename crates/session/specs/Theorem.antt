@@ -3,16 +3,16 @@
 --   Reached x                   x is new, or loaded with models that 1, 2 and 4 do not refuse, or paired, and the checker accepts its pair
 --   EveryRun                    every list of calls makes such a session of a new one
 --   RefusalChangesNothing       a refused call gives back the session it took, and a lent list holds what it held
+--   CountsAsHeld                a new, loaded or paired session that calls make counts as that
 --   GroupByGroup                the k-th group of n words in the output of a conversion is the image of the k-th group of the input
 --   BackAgain                   in a session that calls have made, back after forward gives every table again, and forward after back
 use mathlib.Core.Path.{_≡_}
 use mathlib.Core.List.{List, [], _∷_}
-use Prim.Native.Nat.{ℕ, suc, _*_, _<_}
+use Prim.Native.Nat.{ℕ, _*_, _/_, _<_}
 use lib.ListN.{length, take, drop}
 use Rattle.finder.specs.Theorem.{Models}
-use Rattle.pair.specs.Pair.{checkNumber}
-use Rattle.quotient.specs.Residue.{Words, substitute}
-use Rattle.session.specs.Session.{view, newSession, loadedSession, pairedSession, load, propose, find, convert, forwardOutput, backOutput, clear, converted, convertNumber}
+use Rattle.pair.specs.Pair.{forward, backward, checkNumber}
+use Rattle.session.specs.Session.{empty, loaded, paired, view, newSession, loadedSession, pairedSession, load, propose, find, convert, forwardOutput, backOutput, clear, convertNumber}
 use Rattle.session.specs.declared.Session.{Session}
 
 pub data Call : Type 0 where
@@ -50,13 +50,23 @@ pub record RefusalChangesNothing (x : Session) : Type 0 where
   pub forward-keeps : (table out : List ℕ) → (convert x table out .number ≡ 0 → ⊥) → forwardOutput x table out ≡ out
   pub back-keeps : (table out : List ℕ) → (convert x table out .number ≡ 0 → ⊥) → backOutput x table out ≡ out
 
+-- what the calls make counts as what it holds
+pub record CountsAsHeld : Type 0 where
+  pub new-is-empty : view newSession ≡ empty
+  pub loaded-is-loaded : (p n : ℕ) (t1 t2 : List ℕ) → Models p n t1 t2 → view (loadedSession p n t1 t2) ≡ loaded p n t1 t2
+  pub paired-is-paired :
+      (p n : ℕ) (t1 t2 s r : List ℕ) → checkNumber p n t1 t2 s r ≡ 0 → view (pairedSession p n t1 t2 s r) ≡ paired p n t1 t2 s r
+
+-- for every k; a value's arrays have 16 words, so the lists of a value that counts as paired have n
 abbrev pub GroupByGroup : Type 0
 GroupByGroup =
-    (p n k j : ℕ) (t s table : List ℕ) → Words p (suc n) t → length table ≡ k * suc n → j < k
-    → take (suc n) (drop (j * suc n) (converted p (suc n) t s k table)) ≡ substitute p t s (take (suc n) (drop (j * suc n) table))
+    (x : Session) (p n k : ℕ) (t1 t2 s r table out : List ℕ) → view x ≡ paired p n t1 t2 s r → length t1 ≡ n → length t2 ≡ n
+    → convertNumber (view x) table out ≡ 0 → k < length table / n
+    → (take n (drop (k * n) (forwardOutput x table out)) ≡ forward p t2 s (take n (drop (k * n) table)))
+    × (take n (drop (k * n) (backOutput x table out)) ≡ backward p t1 r (take n (drop (k * n) table)))
 
 abbrev pub BackAgain : Type 0
 BackAgain =
-    (cs : List Call) (table out : List ℕ) → convertNumber (view (run newSession cs)) table out ≡ 0
-    → (backOutput (run newSession cs) (forwardOutput (run newSession cs) table out) out ≡ table)
-    × (forwardOutput (run newSession cs) (backOutput (run newSession cs) table out) out ≡ table)
+    (cs : List Call) (table out lent : List ℕ) → convertNumber (view (run newSession cs)) table out ≡ 0 → length lent ≡ length out
+    → (backOutput (run newSession cs) (forwardOutput (run newSession cs) table out) lent ≡ table)
+    × (forwardOutput (run newSession cs) (backOutput (run newSession cs) table out) lent ≡ table)
