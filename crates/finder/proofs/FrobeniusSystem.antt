@@ -115,7 +115,7 @@ module _ (p z a x : ℕ) (below : z < p) where
   zero-of-equal e =
       ap (λ y. (y + (p - z) * x) % p) e ∙ mod-add-mod (z * x) p ((p - z) * x) ∙ ap (λ y. y % p) (add-comm (z * x) ((p - z) * x) ∙ cancel) ∙ mul-mod-right p x
 
-module _ {p n : ℕ} {t s m c c' : List ℕ} (prime : Prime p) (short : n ≤ 16) (wt : Words p n t) (ws : Words p n s) (powers : Powers p n t s m) (columns : Columns m c)
+module _ {p n : ℕ} {t s m c c' : List ℕ} (prime : Prime p) (short : n ≤ 16) (wt : Words p n t) (ws : Words p n s) (powers : Powers p n t s m) (columns : Columns n m c)
     (z : ℕ) (below : z < p) (shifted : Shifted p n z c c') where
   abbrev big : 2 ≤ p
   big = prime .0
@@ -180,7 +180,7 @@ module _ (p n : ℕ) (t x : List ℕ) (prime : Prime p) (ht : Holds p n t) (ex :
   frobenius : {u : List ℕ} → Words p n u → power p T u p ≡ substitute p T (take n x) u
   frobenius {u} wu = frobenius-substitutes prime (ht .words) (u, wu) ∙ ap (λ s. substitute p T s u) (sym (front-is ex power-x-words))
 
-  module _ (z : ℕ) (m c c' : List ℕ) (short : n ≤ 16) (below : z < p) (powers : Powers p n T (take n x) m) (columns : Columns m c) where
+  module _ (z : ℕ) (m c c' : List ℕ) (short : n ≤ 16) (below : z < p) (powers : Powers p n T (take n x) m) (columns : Columns n m c) where
     pub power-x-square : Square p n c
     power-x-square = columns-square p n t x m c prime short ht power-x-holds powers columns
 

@@ -31,18 +31,18 @@ pub record Turned (k : ℕ) (m c : List ℕ) : Type 0 where
 pub turned-start : (m : List ℕ) → Turned 0 m (replicate 256 0)
 turned-start m = record { size = length-replicate {A = ℕ} 256 0; words = λ q l. absurd (omega arith) }
 
-pub turned-turn : (k : ℕ) (m c : List ℕ) → Turned k m c → k < 256 → Turned (k + 1) m (set c k (getD m (16 * (k % 16) + k / 16) 0))
-turned-turn k m c h l = record { size = length-set c k _ ∙ h .size; words = λ q less. by-place q less (ℕ-discrete q k) }
+pub turned-turn : (k : ℕ) (m c : List ℕ) → Turned k m c → (n : ℕ) → k < 16 * n → n ≤ 16 → Turned (k + 1) m (set c k (getD m (16 * (k % 16) + k / 16) 0))
+turned-turn k m c h n l short = record { size = length-set c k _ ∙ h .size; words = λ q less. by-place q less (ℕ-discrete q k) }
   where
     word : ℕ → ℕ
     word q = getD m (16 * (q % 16) + q / 16) 0
 
     by-place : (q : ℕ) → q < k + 1 → Dec (q ≡ k) → getD (set c k (word k)) q 0 ≡ word q
     by-place q less (yes e) = ap (λ j. getD (set c k (word k)) j 0) e ∙ getD-set-same c k (word k) 0 (omega (arith, h .size)) ∙ ap word (sym e)
-    by-place q less (no n) = getD-set-other c k q (word k) 0 n ∙ h .words q (omega arith)
+    by-place q less (no other) = getD-set-other c k q (word k) 0 other ∙ h .words q (omega arith)
 
-pub turned-end : (k : ℕ) (m c : List ℕ) → Turned k m c → 256 ≤ k → Columns m c
-turned-end k m c h l =
+pub turned-end : (k : ℕ) (m c : List ℕ) → Turned k m c → (n : ℕ) → 16 * n ≤ k → Columns n m c
+turned-end k m c h n l =
     record {
       size = h .size;
       words = λ i j li lj.
@@ -67,7 +67,7 @@ pub holds-vector : {p n : ℕ} {xs : List ℕ} → Holds p n xs → Vector p n x
 unfolding padded
 holds-vector {n = n} {xs = xs} h = record { words = h .words; zeros = h .zeros ∙ ap (λ k. take n xs ++ replicate (16 - k) 0) (words-length (h .words)) }
 
-module _ {p n : ℕ} {t s m c : List ℕ} (big : 2 ≤ p) (short : n ≤ 16) (wt : Words p n t) (ws : Words p n s) (powers : Powers p n t s m) (columns : Columns m c) where
+module _ {p n : ℕ} {t s m c : List ℕ} (big : 2 ≤ p) (short : n ≤ 16) (wt : Words p n t) (ws : Words p n s) (powers : Powers p n t s m) (columns : Columns n m c) where
   -- word i of f(S)
   pub system-word : {f : List ℕ} → Words p n f → (i : ℕ) → i < n → rowProduct c i 0 f % p ≡ getD (substitute p t s f) i 0
   system-word {f} wf i l =
@@ -105,7 +105,7 @@ module _ {p n : ℕ} {t s m c : List ℕ} (big : 2 ≤ p) (short : n ≤ 16) (wt
 -- the same of arrays that hold T, S and b
 
 module _ (p n : ℕ) (t s m c : List ℕ) (prime : Prime p) (short : n ≤ 16) (ht : Holds p n t) (hs : Holds p n s) (powers : Powers p n (take n t) (take n s) m)
-    (columns : Columns m c) where
+    (columns : Columns n m c) where
   pub columns-square : Square p n c
   columns-square =
       record {

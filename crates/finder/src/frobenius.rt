@@ -41,7 +41,7 @@ fn kernel(p: u64, n: usize, z: u64, t: &[u64; 16]) -> Solution
     ensures { λ r. ⌜ Kernel p n (take n (now (t .entry))) z (r .regular) (r .vector) ⌝ }
 {
     let x = power_of_x(p, n, t);
-    let m = minus(p, n, z, columns(&powers(p, n, t, &x)));
+    let m = minus(p, n, z, columns(n, &powers(p, n, t, &x)));
     solve(p, n, m, [0; 16])
 }
 

@@ -10,14 +10,14 @@ use linear::system::solve;
 use residue::ring::residue_of_x;
 use residue::table::powers;
 
-// The matrix whose columns are the rows of a table.
-pub fn columns(m: &[u64; 256]) -> [u64; 256]
-    requires { ⌜ length (now m) ≡ 256 ⌝ }
-    ensures { λ r. ⌜ Columns (now (m .entry)) r ⌝ }
+// The matrix of n rows whose columns are the rows of a table.
+pub fn columns(n: usize, m: &[u64; 256]) -> [u64; 256]
+    requires { ⌜ (n ≤ 16) × (length (now m) ≡ 256) ⌝ }
+    ensures { λ r. ⌜ Columns n (now (m .entry)) r ⌝ }
 {
     let mut r = [0; 256];
     let mut k = 0;
-    while k < 256 {
+    while k < 16 * n {
         r[k] = m[16 * (k % 16) + k / 16];
         k += 1;
     }
@@ -32,7 +32,7 @@ pub fn express(p: u64, n: usize, t: &[u64; 16], a: &[u64; 16]) -> [u64; 16]
     requires { ⌜ Independent p n (take n (now t)) (take n (now a)) ⌝ }
     ensures { λ r. ⌜ r ≡ padded (expressOf p (take n (now (t .entry))) (take n (now (a .entry)))) ⌝ }
 {
-    let m = columns(&powers(p, n, t, a));
+    let m = columns(n, &powers(p, n, t, a));
     let x = residue_of_x(p, n, t);
     let answer = solve(p, n, m, x);
     answer.vector
