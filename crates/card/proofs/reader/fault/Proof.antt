@@ -3,7 +3,6 @@ use borrow.Author.Needs.{needs}
 use Rattle.card.proofs.ReadFaults.{read-room, read-short, read-prime, read-kind, read-body}
 use Rattle.card.proofs.reader.fault.Statement.{statement}
 use Rattle.card.proofs.reader.fault.Tie as tie
-use Rattle.modular.proofs.prime.is_prime.Reads as is-prime-reads
 
 returns : tie.Need-returns
 returns c = search read-room

@@ -3,8 +3,6 @@ use borrow.Author.Needs.{needs}
 use Rattle.card.proofs.WriteFaults.{prime-most, write-prime, write-low, write-high, write-kind, write-count, write-size, write-word, write-none}
 use Rattle.card.proofs.writer.fault.Statement.{statement}
 use Rattle.card.proofs.writer.fault.Tie as tie
-use Rattle.modular.proofs.list.below.Reads as below-reads
-use Rattle.modular.proofs.prime.is_prime.Reads as is-prime-reads
 
 is-prime-requires : tie.Need-is-prime-requires
 is-prime-requires c κs = search needs
