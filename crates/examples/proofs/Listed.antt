@@ -15,7 +15,7 @@ use Rattle.finder.proofs.ChosenPair.{zeta-found}
 use Rattle.finder.proofs.Construction.{root-independent}
 use Rattle.finder.proofs.Express.{express-is, express-unique}
 use Rattle.finder.proofs.Theorem.{demand-3}
-use Rattle.finder.proofs.Zeta.{OrderModulo}
+use Rattle.finder.specs.Root.{OrderModulo}
 use Rattle.pair.specs.Pair.{Congruences, checkNumber}
 use Rattle.pair.specs.Theorem.{Given}
 use Rattle.pair.proofs.Theorem.{checker-theorem}

@@ -17,13 +17,14 @@ use Rattle.algebra.proofs.RingLaws.{power-add, power-mul, power-one}
 use Rattle.finder.specs.Finder.{alpha, leading, powerConstant}
 use Rattle.finder.specs.Theorem.{Eigenvector}
 use Rattle.finder.proofs.Alpha.{alpha-unique, power-constant-is}
-use Rattle.finder.proofs.Express.{Independent}
+use Rattle.finder.specs.System.{Independent}
 use Rattle.finder.proofs.Irreducible.{eigenvector-unique, kernel-independent}
 use Rattle.finder.proofs.KernelVector.{KernelVector, kernel-of-eigenvector}
 use Rattle.finder.proofs.Leading.{leading-constant-zero}
 use Rattle.finder.proofs.NoDivisor.{no-divisor}
 use Rattle.finder.proofs.ResidueConstants.{power-numeral}
-use Rattle.finder.proofs.Zeta.{OrderModulo, power-of-numeral}
+use Rattle.finder.specs.Root.{OrderModulo}
+use Rattle.finder.proofs.Zeta.{power-of-numeral}
 use Rattle.modular.specs.Refusal.{badLength, badWord}
 use Rattle.quotient.specs.Divisor.{HasDivisor}
 use Rattle.quotient.specs.Residue.{Words, Residue, constant, power, scale}

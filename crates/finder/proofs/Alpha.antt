@@ -17,11 +17,11 @@ use Rattle.quotient.proofs.Listing.{residues-complete, residues-sound}
 use Rattle.quotient.proofs.Words.{words-length}
 use Rattle.finder.specs.Finder.{alpha, firstResidue, leading, powerConstant}
 use Rattle.finder.specs.Theorem.{Eigenvector}
-use Rattle.finder.proofs.Express.{Independent}
+use Rattle.finder.specs.Root.{OrderModulo}
+use Rattle.finder.specs.System.{Independent}
 use Rattle.finder.proofs.Irreducible.{kernel-vector-exists, power-is-constant, kernel-independent, eigenvector-unique}
 use Rattle.finder.proofs.KernelVector.{KernelVector, kernel-of-eigenvector, normalised-eigenvector}
 use Rattle.finder.proofs.Leading.{normalised}
-use Rattle.finder.proofs.Zeta.{OrderModulo}
 
 -- a test that cannot be true is false
 pub test-fails : (b : Bool) → (b ≡ true → ⊥) → b ≡ false

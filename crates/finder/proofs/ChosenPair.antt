@@ -13,16 +13,18 @@ use Rattle.quotient.specs.Residue.{Words, scale, constant, power, substitute, m
 use Rattle.quotient.proofs.Words.{scale-words, substitute-words}
 use Rattle.finder.specs.Finder.{zeta, alpha, powerConstant, ratio, express, findS, findR}
 use Rattle.finder.specs.Theorem.{Smallest, Eigenvector, ChosenPair}
+use Rattle.finder.specs.Root.{OrderModulo}
+use Rattle.finder.specs.System.{Independent}
 use Rattle.finder.proofs.Alpha.{alpha-is, alpha-kernel, alpha-independent, alpha-constant}
 use Rattle.finder.proofs.Construction.{root-independent, root-of-t1, powers-of-s-independent}
-use Rattle.finder.proofs.Express.{Independent, express-is}
+use Rattle.finder.proofs.Express.{express-is}
 use Rattle.finder.proofs.Irreducible.{constant-root, kernel-independent, eigenvector-unique}
 use Rattle.finder.proofs.KernelVector.{KernelVector, kernel-of-eigenvector}
 use Rattle.finder.proofs.NoDivisor.{constant-positive, no-divisor}
 use Rattle.finder.proofs.Ratio.{ratio-is}
 use Rattle.finder.proofs.ResidueConstants.{constant-injective, constant-is-word}
 use Rattle.finder.proofs.Smallest.{smallest-unique}
-use Rattle.finder.proofs.Zeta.{OrderModulo, zeta-is}
+use Rattle.finder.proofs.Zeta.{zeta-is}
 
 module _ {p n : ℕ} {t1 t2 : List ℕ} (prime : Prime p) (w1 : Words p (suc n) t1) (w2 : Words p (suc n) t2) where
   module _ {s r : List ℕ} (h : ChosenPair p (suc n) t1 t2 s r) where

@@ -1,9 +1,9 @@
--- The pair on arrays: with ζ, α1, α2, a1 and a2 as the definitions choose them, c exists, the systems for P1 and R have one solution each,
--- and what is worked out is S and R.
+-- The pair on arrays: two moduli with an eigenvector have no proper divisors, so that c exists; with α1, α2 and c as the definitions choose
+-- them the systems for P1 and R have one solution each, and what is worked out is S and R.
 use mathlib.Core.Path.{_≡_, refl, sym, ap, ap₂, subst, subst₂, _∙_}
 use mathlib.Core.Bool.{Bool, true, false, not}
 use mathlib.Core.List.{List}
-use Prim.Native.Nat.{ℕ, zero, suc, _-_, _%_, _^_, _≤_, _<_}
+use Prim.Native.Nat.{ℕ, _-_, _%_, _^_, _≤_, _<_}
 use native.Mathlib.Omega.{arith}
 use lib.ListN.{take}
 use borrow.Author.Tests.{not-false, eq-eqb, ne-eqb}
@@ -14,66 +14,48 @@ use Rattle.quotient.specs.Residue.{Words, scale, substitute}
 use Rattle.quotient.proofs.Words.{scale-words}
 use Rattle.residue.specs.Array.{padded, Holds}
 use Rattle.residue.proofs.Padded.{front-is, holds-is}
-use Rattle.finder.specs.Construct.{Eigenvectors, pairNumber, FoundPair}
+use Rattle.finder.specs.Construct.{Choices, pairNumber, FoundPair}
 use Rattle.finder.specs.Finder.{zeta, alpha, powerConstant, ratio, express, findS, findR}
 use Rattle.finder.specs.Kernel.{Answer}
 use Rattle.finder.specs.Root.{Admissible, OrderModulo, Solvable}
 use Rattle.finder.specs.System.{Independent}
-use Rattle.finder.proofs.Alpha.{alpha-kernel, alpha-independent}
 use Rattle.finder.proofs.Express.{express-is}
-use Rattle.finder.proofs.Values.{test-irreducible, alpha-power, ratio-smallest, find-s-independent}
+use Rattle.finder.proofs.Values.{alpha-words, alpha-powers, alpha-power, ratio-smallest, find-s-independent}
 use Rattle.finder.proofs.Zeta as Zeta
 use Rattle.finder.proofs.KernelAnswer.{not-not}
-
-alpha-words : (p n : ℕ) (t : List ℕ) (z : ℕ) → Prime p → 1 ≤ n → Words p n t → OrderModulo p n z → hasDivisor p t ≡ false → Words p n (alpha p t z)
-alpha-words p zero t z prime low wt order e = absurd (omega arith)
-alpha-words p (suc n) t z prime low wt order e = alpha-kernel prime wt z order (test-irreducible p prime wt e) .words
-
-alpha-powers : (p n : ℕ) (t : List ℕ) (z : ℕ) → Prime p → 1 ≤ n → Words p n t → OrderModulo p n z → hasDivisor p t ≡ false → Independent p n t (alpha p t z)
-alpha-powers p zero t z prime low wt order e = absurd (omega arith)
-alpha-powers p (suc n) t z prime low wt order e = alpha-independent prime wt z order (test-irreducible p prime wt e)
 
 -- the number where n divides p − 1
 number-from : (p n : ℕ) (t1 t2 : List ℕ) → Admissible p n → {c d : Bool} → hasDivisor p t1 ≡ c → hasDivisor p t2 ≡ d → pairNumber p n t1 t2 ≡ refuse 6 c (refuse 7 d 0)
 number-from p n t1 t2 h e1 e2 = rw (eq-eqb ((p - 1) % n) 0 (h .divides), e1, e2)
 
-module _ (p n : ℕ) (t1 t2 : List ℕ) (h : Admissible p n) (h1 : Holds p n t1) (h2 : Holds p n t2) (z : ℕ) (x y : List ℕ) (a b : ℕ)
-    (e : Eigenvectors p n (take n t1) (take n t2) z x y a b) where
+-- ζ
+
+module _ (p n : ℕ) (h : Admissible p n) where
+  zeta-small : zeta p n < p
+  zeta-small = Zeta.zeta-is p n (h .prime) (h .low) (h .high) (h .divides) .1
+
+  zeta-order : OrderModulo p n (zeta p n)
+  zeta-order = Zeta.zeta-is p n (h .prime) (h .low) (h .high) (h .divides) .2
+
+  pub zeta-has-order : (z : ℕ) → z ≡ zeta p n → OrderModulo p n z
+  zeta-has-order z e = subst (OrderModulo p n) (sym e) zeta-order
+
+module _ (p n : ℕ) (t1 t2 : List ℕ) (h : Admissible p n) (h1 : Holds p n t1) (h2 : Holds p n t2) (c : ℕ) (x y : List ℕ)
+    (e : Choices p n (take n t1) (take n t2) c x y) where
   abbrev T1 : List ℕ
   T1 = take n t1
 
   abbrev T2 : List ℕ
   T2 = take n t2
 
-  smallest-zeta : (z < p) × OrderModulo p n z
-  smallest-zeta =
-      let s = Zeta.zeta-is p n (h .prime) (h .low) (h .high) (h .divides) in
-      subst (λ k. (k < p) × OrderModulo p n k) (sym (e .zeta-is)) (s .1, s .2)
-
-  pub zeta-small : z < p
-  zeta-small = smallest-zeta .0
-
-  pub zeta-order : OrderModulo p n z
-  zeta-order = smallest-zeta .1
-
-  pub ratio-solvable : Solvable p n a b
-  ratio-solvable =
-      let (_, pos1, below1) = alpha-power p (h .prime) n T1 (h .low) (h1 .words) z zeta-order (e .irreducible1) in
-      let (_, pos2, below2) = alpha-power p (h .prime) n T2 (h .low) (h2 .words) z zeta-order (e .irreducible2) in
-      subst₂ (Solvable p n) (sym (e .constant1-is)) (sym (e .constant2-is))
-      (record {
-        positive1 = pos1;
-        positive2 = pos2;
-        below1 = below1;
-        below2 = below2;
-        smallest = ratio-smallest p (h .prime) n T1 T2 (h .low) (h .divides) (h1 .words) (h2 .words) z zeta-small zeta-order (e .irreducible1) (e .irreducible2);
-      })
+  abbrev z : ℕ
+  z = zeta p n
 
   words1 : Words p n (alpha p T1 z)
-  words1 = alpha-words p n T1 z (h .prime) (h .low) (h1 .words) zeta-order (e .irreducible1)
+  words1 = alpha-words p (h .prime) n T1 (h .low) (h1 .words) z (zeta-order p n h) (e .irreducible1)
 
   words2 : Words p n (alpha p T2 z)
-  words2 = alpha-words p n T2 z (h .prime) (h .low) (h2 .words) zeta-order (e .irreducible2)
+  words2 = alpha-words p (h .prime) n T2 (h .low) (h2 .words) z (zeta-order p n h) (e .irreducible2)
 
   pub alpha1-holds : Holds p n x
   alpha1-holds = holds-is (e .alpha1-is) words1
@@ -85,28 +67,7 @@ module _ (p n : ℕ) (t1 t2 : List ℕ) (h : Admissible p n) (h1 : Holds p n t1)
   front1 = front-is (e .alpha1-is) words1
 
   pub alpha1-independent : Independent p n T1 (take n x)
-  alpha1-independent = subst (Independent p n T1) (sym front1) (alpha-powers p n T1 z (h .prime) (h .low) (h1 .words) zeta-order (e .irreducible1))
-
-  pub forward-words : Words p n (findS p n T1 T2)
-  forward-words = find-s-independent p (h .prime) n T1 T2 (h .low) (h .high) (h .divides) (h1 .words) (h2 .words) (e .irreducible1) (e .irreducible2) .0
-
-  module _ (s : List ℕ) (es : s ≡ padded (findS p n T1 T2)) where
-    pub forward-holds : Holds p n s
-    forward-holds = holds-is es forward-words
-
-    pub forward-independent : Independent p n T2 (take n s)
-    forward-independent =
-        subst (Independent p n T2) (sym (front-is es forward-words))
-        (find-s-independent p (h .prime) n T1 T2 (h .low) (h .high) (h .divides) (h1 .words) (h2 .words) (e .irreducible1) (e .irreducible2) .1)
-
-    pub pair-is : (r : List ℕ) → r ≡ padded (express p T2 (take n s)) → FoundPair p n T1 T2 0 s r
-    unfolding findR
-    pair-is r er =
-        record {
-          number-is = sym (number-from p n T1 T2 h (e .irreducible1) (e .irreducible2));
-          forward-is = λ _. es;
-          backward-is = λ _. er ∙ ap (λ u. padded (express p T2 u)) (front-is es forward-words);
-        }
+  alpha1-independent = subst (Independent p n T1) (sym front1) (alpha-powers p (h .prime) n T1 (h .low) (h1 .words) z (zeta-order p n h) (e .irreducible1))
 
   express-words : Words p n (express p T1 (take n x))
   express-words = express-is (h .prime .0) (h1 .words) (alpha1-holds .words) alpha1-independent .0
@@ -114,21 +75,15 @@ module _ (p n : ℕ) (t1 t2 : List ℕ) (h : Admissible p n) (h1 : Holds p n t1)
   pub express-holds : (q : List ℕ) → q ≡ padded (express p T1 (take n x)) → Holds p n q
   express-holds q eq = holds-is eq express-words
 
-  pub multiple-holds : (c : ℕ) (g : List ℕ) → g ≡ padded (scale p c (take n y)) → Holds p n g
-  multiple-holds c g eg = holds-is eg (scale-words c (alpha2-holds .words))
+  pub multiple-holds : (g : List ℕ) → g ≡ padded (scale p c (take n y)) → Holds p n g
+  multiple-holds g eg = holds-is eg (scale-words c (alpha2-holds .words))
 
-  module _ (c : ℕ) (q g : List ℕ) (ec : c ≡ ratio p n a b) (eq : q ≡ padded (express p T1 (take n x))) (eg : g ≡ padded (scale p c (take n y))) where
-    -- ζ, a1 and a2 as the definitions of S have them
-    ratio-is : c ≡ ratio p n (powerConstant p T1 (alpha p T1 (zeta p n))) (powerConstant p T2 (alpha p T2 (zeta p n)))
-    ratio-is =
-        ec ∙ ap₂ (ratio p n) (e .constant1-is ∙ ap (λ k. powerConstant p T1 (alpha p T1 k)) (e .zeta-is)) (e .constant2-is ∙ ap (λ k. powerConstant p T2 (alpha p T2 k)) (e .zeta-is))
-
-    pub forward-is : (s : List ℕ) → s ≡ padded (substitute p T2 (take n g) (take n q)) → s ≡ padded (findS p n T1 T2)
-    unfolding findS
-    forward-is s es =
-        es ∙ ap₂ (λ u v. padded (substitute p T2 u v))
-        (front-is eg (scale-words c (alpha2-holds .words)) ∙ ap₂ (scale p) ratio-is (front-is (e .alpha2-is) words2 ∙ ap (alpha p T2) (e .zeta-is)))
-        (front-is eq express-words ∙ ap (λ k. express p T1 k) (front1 ∙ ap (alpha p T1) (e .zeta-is)))
+  pub forward-is : (q g s : List ℕ) → q ≡ padded (express p T1 (take n x)) → g ≡ padded (scale p c (take n y))
+      → s ≡ padded (substitute p T2 (take n g) (take n q)) → s ≡ padded (findS p n T1 T2)
+  unfolding findS
+  forward-is q g s eq eg es =
+      es ∙ ap₂ (λ u v. padded (substitute p T2 u v))
+      (front-is eg (scale-words c (alpha2-holds .words)) ∙ ap₂ (scale p) (e .ratio-is) (front-is (e .alpha2-is) words2)) (front-is eq express-words ∙ ap (express p T1) front1)
 
 -- the answer
 
@@ -140,33 +95,77 @@ refused p n t1 t2 number s r e other = record { number-is = e; forward-is = λ z
 divisor-of : {p n : ℕ} {t : List ℕ} {z : ℕ} {f : Bool} {a : List ℕ} {b : ℕ} → Answer p n t z f a b → hasDivisor p t ≡ not f
 divisor-of {p} {t = t} {f = f} h = sym (not-not (hasDivisor p t)) ∙ ap not (sym (h .decides))
 
-module _ (p n z : ℕ) (t1 t2 : List ℕ) (h : Admissible p n) (zeta-is : z ≡ zeta p n) where
-  pub zeta-has-order : OrderModulo p n z
-  zeta-has-order = subst (OrderModulo p n) (sym zeta-is) (Zeta.zeta-is p n (h .prime) (h .low) (h .high) (h .divides) .2)
-
+module _ (p n z : ℕ) (t1 t2 : List ℕ) (h : Admissible p n) where
   module _ (f1 : Bool) (x : List ℕ) (a : ℕ) (answer1 : Answer p n t1 z f1 x a) where
     pub refused-first : not f1 ≡ true → (number : ℕ) (s r : List ℕ) → number ≡ 6 → FoundPair p n t1 t2 number s r
     refused-first none number s r e =
-        refused p n t1 t2 number s r (e ∙ sym (number-from p n t1 t2 h (divisor-of answer1 ∙ none) refl)) (λ z. omega arith)
+        refused p n t1 t2 number s r (e ∙ sym (number-from p n t1 t2 h (divisor-of answer1 ∙ none) refl)) (λ k. omega arith)
 
     module _ (f2 : Bool) (y : List ℕ) (b : ℕ) (answer2 : Answer p n t2 z f2 y b) (some1 : not f1 ≡ false) where
       pub refused-second : not f2 ≡ true → (number : ℕ) (s r : List ℕ) → number ≡ 7 → FoundPair p n t1 t2 number s r
       refused-second none number s r e =
           refused p n t1 t2 number s r
-          (e ∙ sym (number-from p n t1 t2 h (divisor-of answer1 ∙ some1) (divisor-of answer2 ∙ none))) (λ z. omega arith)
+          (e ∙ sym (number-from p n t1 t2 h (divisor-of answer1 ∙ some1) (divisor-of answer2 ∙ none))) (λ k. omega arith)
 
-      module _ (some2 : not f2 ≡ false) where
-        pub eigenvectors-are : Eigenvectors p n t1 t2 z x y a b
-        eigenvectors-are =
-            record {
-              zeta-is = zeta-is;
-              irreducible1 = divisor-of answer1 ∙ some1;
-              irreducible2 = divisor-of answer2 ∙ some2;
-              alpha1-is = answer1 .alpha-is (not-false f1 some1);
-              alpha2-is = answer2 .alpha-is (not-false f2 some2);
-              constant1-is = answer1 .constant-is (not-false f1 some1);
-              constant2-is = answer2 .constant-is (not-false f2 some2);
-            }
+-- an eigenvector that was found
+pub found-answer : (p n : ℕ) (t : List ℕ) (z : ℕ) (f : Bool) (a : List ℕ) (b : ℕ) → Answer p n t z f a b → not f ≡ false → Answer p n t z true a b
+found-answer p n t z f a b h some = subst (λ k. Answer p n t z k a b) (not-false f some) h
+
+module _ (p n z : ℕ) (t1 t2 : List ℕ) (h : Admissible p n) (zeta-is : z ≡ zeta p n) (x y : List ℕ) (a b : ℕ)
+    (answer1 : Answer p n t1 z true x a) (answer2 : Answer p n t2 z true y b) where
+  -- c exists
+  ratio-exists : Words p n t1 → Words p n t2 → Solvable p n a b
+  ratio-exists w1 w2 =
+      let order : OrderModulo p n z = zeta-has-order p n h z zeta-is in
+      let (_, pos1, below1) = alpha-power p (h .prime) n t1 (h .low) w1 z order (divisor-of answer1) in
+      let (_, pos2, below2) = alpha-power p (h .prime) n t2 (h .low) w2 z order (divisor-of answer2) in
+      subst₂ (Solvable p n) (sym (answer1 .constant-is refl)) (sym (answer2 .constant-is refl))
+      (record {
+        positive1 = pos1;
+        positive2 = pos2;
+        below1 = below1;
+        below2 = below2;
+        smallest = ratio-smallest p (h .prime) n t1 t2 (h .low) (h .divides) w1 w2 z (subst (λ k. k < p) (sym zeta-is) (zeta-small p n h)) order (divisor-of answer1) (divisor-of answer2);
+      })
+
+  pub choices : (c : ℕ) → c ≡ ratio p n a b → c < p → Choices p n t1 t2 c x y
+  choices c ec small =
+      record {
+        irreducible1 = divisor-of answer1;
+        irreducible2 = divisor-of answer2;
+        alpha1-is = answer1 .alpha-is refl ∙ ap (λ k. padded (alpha p t1 k)) zeta-is;
+        alpha2-is = answer2 .alpha-is refl ∙ ap (λ k. padded (alpha p t2 k)) zeta-is;
+        ratio-is =
+            ec ∙ ap₂ (ratio p n) (answer1 .constant-is refl ∙ ap (λ k. powerConstant p t1 (alpha p t1 k)) zeta-is)
+            (answer2 .constant-is refl ∙ ap (λ k. powerConstant p t2 (alpha p t2 k)) zeta-is);
+        ratio-small = small;
+      }
+
+-- S and R on arrays
+module _ (p n z : ℕ) (t1 t2 : List ℕ) (h : Admissible p n) (h1 : Holds p n t1) (h2 : Holds p n t2) (x y : List ℕ) (a b : ℕ)
+    (answer1 : Answer p n (take n t1) z true x a) (answer2 : Answer p n (take n t2) z true y b) (s : List ℕ) (es : s ≡ padded (findS p n (take n t1) (take n t2))) where
+  independent : Words p n (findS p n (take n t1) (take n t2)) × Independent p n (take n t2) (findS p n (take n t1) (take n t2))
+  independent =
+      find-s-independent p (h .prime) n (take n t1) (take n t2) (h .low) (h .high) (h .divides) (h1 .words) (h2 .words) (divisor-of answer1) (divisor-of answer2)
+
+  pub forward-holds : Holds p n s
+  forward-holds = holds-is es (independent .0)
+
+  pub forward-independent : Independent p n (take n t2) (take n s)
+  forward-independent = subst (Independent p n (take n t2)) (sym (front-is es (independent .0))) (independent .1)
+
+  pub pair-is : (r : List ℕ) → r ≡ padded (express p (take n t2) (take n s)) → FoundPair p n (take n t1) (take n t2) 0 s r
+  unfolding findR
+  pair-is r er =
+      record {
+        number-is = sym (number-from p n (take n t1) (take n t2) h (divisor-of answer1) (divisor-of answer2));
+        forward-is = λ _. es;
+        backward-is = λ _. er ∙ ap (λ u. padded (express p (take n t2) u)) (front-is es (independent .0));
+      }
+
+pub ratio-solvable : (p n z : ℕ) (t1 t2 x y : List ℕ) (a b : ℕ) → Admissible p n → z ≡ zeta p n → Holds p n t1 → Holds p n t2
+    → Answer p n (take n t1) z true x a → Answer p n (take n t2) z true y b → Solvable p n a b
+ratio-solvable p n z t1 t2 x y a b h e h1 h2 answer1 answer2 = ratio-exists p n z (take n t1) (take n t2) h e x y a b answer1 answer2 (h1 .words) (h2 .words)
 
 -- 5 first
 

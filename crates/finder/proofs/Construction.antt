@@ -18,13 +18,14 @@ use Rattle.quotient.proofs.Reduction.{characteristic, zero-is, scale-is}
 use Rattle.quotient.proofs.Ring.{residueRing}
 use Rattle.quotient.proofs.Substitution.{Homomorphism, homomorphism-zero, evaluate-homomorphism, modulusAt-is, substitute-is}
 use Rattle.quotient.proofs.Words.{residue-path, scale-words, constant-words, substitute-words}
-use Rattle.finder.proofs.Express.{Independent}
+use Rattle.finder.specs.Root.{OrderModulo}
+use Rattle.finder.specs.System.{Independent}
 use Rattle.finder.proofs.Irreducible.{kernel-independent}
 use Rattle.finder.proofs.KernelVector.{KernelVector}
 use Rattle.finder.proofs.NoDivisor.{constant-positive, no-divisor}
 use Rattle.finder.proofs.ResidueConstants.{ring-proper, constant-length, constant-is-word, evaluate-constant, power-numeral}
 use Rattle.finder.proofs.Transfer.{transfer-root}
-use Rattle.finder.proofs.Zeta.{OrderModulo, numeral-power}
+use Rattle.finder.proofs.Zeta.{numeral-power}
 
 -- a homomorphism out of a field is injective: φ(d) = 0 for d ≠ 0 would give φ(1) = φ(d)·φ(1/d) = 0
 module _ {A B : Type 0} (F : Field A) (S : CommutativeRing B) (proper : S .one ≡ S .zero → ⊥) {f : A → B} (h : Homomorphism (F .ring) S f) where

@@ -1,6 +1,5 @@
 -- If the powers 1, s, …, s^(n − 1) modulo T are independent, exactly one P of degree below n has P(s) = X modulo T, and the search finds it:
 -- P ↦ P(s) is an injective map of the p^n residues into themselves, hence onto.
---   Independent p t s   P ↦ P(s) modulo T is injective on the polynomials of degree below n
 use mathlib.Core.Path.{_≡_, sym, _∙_, subst}
 use mathlib.Core.List.{List, List-discrete}
 use Prim.Native.Nat.{ℕ, _≤_}
@@ -14,7 +13,7 @@ use Rattle.quotient.specs.Residue.{Words, residues, constant, residueOfX, subst
 use Rattle.quotient.proofs.Listing.{residues-complete, residues-sound, residues-distinct}
 use Rattle.quotient.proofs.Words.{to-length, of-length, substitute-words, residueOfX-words}
 use Rattle.finder.specs.Finder.{express, firstResidue}
-pub use Rattle.finder.specs.System.{Independent}
+use Rattle.finder.specs.System.{Independent}
 
 module _ {p n : ℕ} {t s : List ℕ} (big : 2 ≤ p) (wt : Words p n t) (ws : Words p n s) (independent : Independent p n t s) where
   expression : (f : List ℕ) × Words p n f × (substitute p t s f ≡ residueOfX p t)

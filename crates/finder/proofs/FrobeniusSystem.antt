@@ -1,7 +1,6 @@
 -- The kernel of u ↦ u^p − z·u on residues modulo T. In row i, M − z has the product of row i of M with u, minus z times word i of u; where the
 -- columns of M are the powers of X^p, that product is word i of u(X^p) = u^p. So (M − z)·u = 0 says u^p = z·u.
---   spot d i k             d at k = i, and 0 elsewhere
---   Diagonal p n z k m c   z is subtracted in the first k words of the diagonal
+--   spot d i k   d at k = i, and 0 elsewhere
 use mathlib.Core.Path.{_≡_, refl, sym, ap, ap₂, _∙_}
 use mathlib.Core.Bool.{Bool}
 use mathlib.Core.List.{List, [], _∷_}
@@ -9,8 +8,7 @@ use Prim.Native.Nat.{ℕ, zero, suc, _+_, _-_, _*_, _%_, _≤_, _<_}
 use native.Mathlib.Decide.{ℕ-discrete}
 use native.Mathlib.Nat.{add-assoc, add-comm, add-mul, add-mul-mod-self-left, add-zero, mod-add-mod, mod-eq-of-lt, mod-lt, mod-mod, mul-mod-right, zero-add, zero-mod}
 use native.Mathlib.Omega.{arith}
-use lib.ListN.{length, getD, take, set, replicate, length-set}
-use lib.Seq.{getD-set-same, getD-set-other}
+use lib.ListN.{length, getD, take, replicate}
 use Rattle.algebra.specs.Prime.{Prime}
 use Rattle.linear.specs.System.{entry, rowProduct, Solves, Square, Vector, Outcome}
 use Rattle.linear.proofs.Congruence.{sum-congruent, product-congruent}
@@ -25,39 +23,6 @@ use Rattle.residue.proofs.Padded.{front-is, holds-is, padded-zeros}
 use Rattle.finder.specs.Kernel.{Shifted, Kernel}
 use Rattle.finder.specs.System.{Columns}
 use Rattle.finder.proofs.PowerSystem.{row-inner, system-word, columns-square, vector-holds, holds-vector}
-
-pub record Diagonal (p z k : ℕ) (m c : List ℕ) : Type 0 where
-  pub size : length c ≡ 256
-  pub done : (i : ℕ) → i < k → entry c i i ≡ (entry m i i + (p - z)) % p
-  pub same : (i j : ℕ) → i < 16 → j < 16 → (j ≡ i → ⊥) → entry c i j ≡ entry m i j
-  pub rest : (i : ℕ) → k ≤ i → i < 16 → entry c i i ≡ entry m i i
-
-module _ (p n z : ℕ) (m : List ℕ) where
-  pub diagonal-start : Square p n m → Diagonal p z 0 m m
-  diagonal-start h = record { size = h .size; done = λ i l. absurd (omega arith); same = λ i j _ _ _. refl; rest = λ i _ _. refl }
-
-  module _ (k : ℕ) (c : List ℕ) (d : Diagonal p z k m c) where
-    pub diagonal-below : Square p n m → k < n → n ≤ 16 → entry c k k < p
-    diagonal-below h l short = rw (d .rest k (omega arith) (omega arith)) (h .below k k l l)
-
-    pub diagonal-turn : (w : ℕ) → k < n → n ≤ 16 → w ≡ (entry c k k + (p - z)) % p → Diagonal p z (k + 1) m (set c (16 * k + k) w)
-    diagonal-turn w l short e =
-        record {
-          size = length-set c (16 * k + k) w ∙ d .size;
-          done = λ i li. by-place i li (ℕ-discrete i k);
-          same = λ i j li lj other. getD-set-other c (16 * k + k) (16 * i + j) w 0 (λ s. other (omega arith)) ∙ d .same i j li lj other;
-          rest = λ i from li. getD-set-other c (16 * k + k) (16 * i + i) w 0 (λ s. omega arith) ∙ d .rest i (omega arith) li;
-        }
-      where
-        by-place : (i : ℕ) → i < k + 1 → Dec (i ≡ k) → entry (set c (16 * k + k) w) i i ≡ (entry m i i + (p - z)) % p
-        by-place i li (yes s) =
-            ap (λ j. entry (set c (16 * k + k) w) j j) s ∙ getD-set-same c (16 * k + k) w 0 (omega (arith, d .size)) ∙ e
-            ∙ ap (λ x. (x + (p - z)) % p) (d .rest k (omega arith) (omega arith)) ∙ ap (λ j. (entry m j j + (p - z)) % p) (sym s)
-        by-place i li (no other) = getD-set-other c (16 * k + k) (16 * i + i) w 0 (λ s. other (omega arith)) ∙ d .done i (omega arith)
-
-    pub diagonal-end : n ≤ 16 → n ≤ k → Shifted p n z m c
-    diagonal-end short all =
-        record { size = d .size; diagonal = λ i l. d .done i (omega arith); others = λ i j li lj other. d .same i j (omega arith) (omega arith) other }
 
 spot : ℕ → ℕ → ℕ → ℕ
 spot d zero zero = d

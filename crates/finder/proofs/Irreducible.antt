@@ -21,13 +21,14 @@ use Rattle.quotient.proofs.Substitution.{substitute-is}
 use Rattle.quotient.proofs.Words.{residue-path}
 use Rattle.finder.specs.Finder.{leading}
 use Rattle.finder.specs.Theorem.{Eigenvector}
+use Rattle.finder.specs.Root.{OrderModulo}
+use Rattle.finder.specs.System.{Independent}
 use Rattle.finder.proofs.Eigenvector.{Eigen, eigen-exists, eigen-multiple, eigen-constant, eigen-constant-root}
-use Rattle.finder.proofs.Express.{Independent}
 use Rattle.finder.proofs.Independence.{evaluate-injective}
 use Rattle.finder.proofs.KernelVector.{KernelVector, eigen-of-kernel, kernel-of-eigen, kernel-of-eigenvector}
 use Rattle.finder.proofs.Leading.{leading-scale}
 use Rattle.finder.proofs.ResidueConstants.{ring-proper, fixed-constant, constant-power-is, power-numeral}
-use Rattle.finder.proofs.Zeta.{OrderModulo, constant-order, power-modulo}
+use Rattle.finder.proofs.Zeta.{constant-order, power-modulo}
 
 module _ {p n : ℕ} {t : List ℕ} (prime : Prime p) (wt : Words p (suc n) t) (irreducible : HasDivisor p t → ⊥) where
   abbrev F : Field (Residue p (suc n))

@@ -1,4 +1,4 @@
--- The proofs of the finder's mathematics: eigenvectors of the p-th power, and demand 3.
+-- The finder's mathematics, demand 3, and the laws on which the proofs of its functions rest.
 pub mod Constants
 pub mod Eigenvector
 pub mod Independence
@@ -7,15 +7,6 @@ pub mod Smallest
 pub mod Zeta
 pub mod Express
 pub mod Transfer
-pub mod RootsOfUnity
-pub mod OrderScan
-pub mod RootScan
-pub mod PowerSystem
-pub mod VectorScan
-pub mod FrobeniusSystem
-pub mod KernelAnswer
-pub mod Constructed
-pub mod FindAnswer
 pub mod Leading
 pub mod KernelVector
 pub mod ResidueConstants
@@ -26,3 +17,14 @@ pub mod Construction
 pub mod ChosenPair
 pub mod Values
 pub mod Theorem
+pub mod Scan
+pub mod RootsOfUnity
+pub mod OrderScan
+pub mod RootScan
+pub mod VectorScan
+pub mod PowerSystem
+pub mod DiagonalScan
+pub mod FrobeniusSystem
+pub mod KernelAnswer
+pub mod Constructed
+pub mod FindAnswer

@@ -19,12 +19,13 @@ use Rattle.quotient.proofs.Reduction.{characteristic, reduce}
 use Rattle.quotient.proofs.Ring.{residueRing}
 use Rattle.quotient.proofs.Substitution.{Homomorphism, homomorphism-numeral}
 use Rattle.quotient.proofs.Words.{words-length}
+use Rattle.finder.specs.Root.{OrderModulo}
 use Rattle.finder.proofs.Constants.{numeral-nonzero}
 use Rattle.finder.proofs.Eigenvector.{Eigen, eigenvalue-period, eigen-not-nilpotent}
 use Rattle.finder.proofs.Irreducible.{nonzero-count}
 use Rattle.finder.proofs.KernelVector.{KernelVector, eigen-of-kernel}
 use Rattle.finder.proofs.ResidueConstants.{ring-proper, fixed-constant, constant-is-word, power-numeral}
-use Rattle.finder.proofs.Zeta.{OrderModulo, constant-order, power-of-numeral}
+use Rattle.finder.proofs.Zeta.{constant-order, power-of-numeral}
 
 module _ {A B : Type 0} {R : CommutativeRing A} {S : CommutativeRing B} {f : A → B} (h : Homomorphism R S f) where
   homomorphism-power : (a : A) (k : ℕ) → f (Ring.power R a k) ≡ Ring.power S (f a) k

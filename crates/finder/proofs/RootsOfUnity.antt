@@ -1,6 +1,7 @@
 -- The solutions of u^n = 1 in a field are the powers of an element w of order n: these are n solutions, and there are no more. So the
 -- solutions of u^n·b = a are the products of one of them with the powers of w. In the field of p elements, where n divides p − 1, some
 -- g^((p − 1)/n) has order n, for g^((p − 1)/n) = w is solvable if w^n = 1.
+--   Solution p n a b u   u^n·b = a modulo p
 use mathlib.Core.Path.{_≡_, sym, ap, ap₂, subst, _∙_}
 use mathlib.Core.List.{List, _∷_, map}
 use Prim.Native.Nat.{ℕ, zero, suc, _-_, _*_, _/_, _%_, _^_, _≤_, _<_}
@@ -75,6 +76,9 @@ module _ {A : Type 0} (F : Field A) (w : A) (n : ℕ) (pos : 0 < n) (order : Has
       regroup : (c d e : A) → R .mul (R .mul c d) e ≡ R .mul (R .mul e c) d
       regroup c d e = simp (mul-assoc R, ring-mul-comm R)
 
+abbrev pub Solution : ℕ → ℕ → ℕ → ℕ → ℕ → Type 0
+Solution p n a b u = u ^ n * b % p ≡ a
+
 module _ {p n : ℕ} (h : Admissible p n) where
   abbrev big : 2 ≤ p
   big = h .prime .0
@@ -112,18 +116,15 @@ module _ {p n : ℕ} (h : Admissible p n) where
       (u .0, pos-of-ne-zero nonzero, u .1, subst (OrderModulo p n) (sym value) (z .2))
 
   module _ (a b : ℕ) (pos : 0 < a) (la : a < p) (lb : b < p) where
-    abbrev Solution : ℕ → Type 0
-    Solution u = u ^ n * b % p ≡ a
-
     -- the same equation between words
     solution-value : (u : Below p) → wordRing p big .mul (power (wordRing p big) u n) (b, lb) .0 ≡ u .0 ^ n * b % p
     solution-value u = mul-value p big (power (wordRing p big) u n) (b, lb) ∙ ap (λ x. x * b % p) (power-value p big u n) ∙ mod-mul-mod (u .0 ^ n) p b
 
-    solution-word : (u : Below p) → Solution (u .0) → wordRing p big .mul (power (wordRing p big) u n) (b, lb) ≡ (a, la)
+    solution-word : (u : Below p) → Solution p n a b (u .0) → wordRing p big .mul (power (wordRing p big) u n) (b, lb) ≡ (a, la)
     solution-word u e = below-equal p _ _ (solution-value u ∙ e)
 
     -- (y·z)^n = y^n
-    pub ratio-times : (z y : ℕ) → z < p → z ^ n % p ≡ 1 → y < p → Solution y → Solution (y * z % p)
+    pub ratio-times : (z y : ℕ) → z < p → z ^ n % p ≡ 1 → y < p → Solution p n a b y → Solution p n a b (y * z % p)
     ratio-times z y lz ez ly ey =
         let Z = wordRing p big in
         let v : Below p = Z .mul (y, ly) (z, lz) in
@@ -131,7 +132,7 @@ module _ {p n : ℕ} (h : Admissible p n) where
         let same : power Z v n ≡ power Z (y, ly) n = power-product Z (y, ly) (z, lz) n ∙ ap (Z .mul (power Z (y, ly) n)) unit ∙ mul-one Z (power Z (y, ly) n) in
         ap (λ x. x ^ n * b % p) (sym (mul-value p big (y, ly) (z, lz))) ∙ sym (solution-value v) ∙ ap (λ x. Z .mul x (b, lb) .0) same ∙ solution-value (y, ly) ∙ ey
 
-    pub ratio-is-multiple : (z y u : ℕ) → z < p → OrderModulo p n z → y < p → Solution y → u < p → Solution u → (j : ℕ) × (j < n) × (u ≡ y * z ^ j % p)
+    pub ratio-is-multiple : (z y u : ℕ) → z < p → OrderModulo p n z → y < p → Solution p n a b y → u < p → Solution p n a b u → (j : ℕ) × (j < n) × (u ≡ y * z ^ j % p)
     unfolding wordField
     ratio-is-multiple z y u lz o ly ey lu eu =
         let (j, l, f) = solution-is-multiple (wordField p (h .prime)) (z, lz) n (h .low) (has-order (z, lz) o) (a, la) (b, lb) (y, ly) (u, lu)

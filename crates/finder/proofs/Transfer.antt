@@ -8,7 +8,7 @@ use native.Mathlib.Omega.{arith}
 use Rattle.quotient.specs.Residue.{Words, constant, residueOfX, substitute, modulusAt}
 use Rattle.quotient.proofs.Words.{constant-words, modulusAt-words}
 use Rattle.quotient.proofs.Substitution.{substitution-preserves, preserves-modulusAt, zero-substitute, modulusAt-x}
-use Rattle.finder.proofs.Express.{Independent}
+use Rattle.finder.specs.System.{Independent}
 
 module _ {p n : ℕ} {t q a : List ℕ} (big : 2 ≤ p) (wt : Words p (suc n) t) (wq : Words p (suc n) q) (wa : Words p (suc n) a)
     (root : modulusAt p t a q ≡ constant (suc n) 0) where

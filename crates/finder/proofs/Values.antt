@@ -1,10 +1,9 @@
 -- The finder's values as the code works them out, on lists and for every n ≥ 1. One vector v ≠ 0 with v^p = ζ·v modulo T, found by elimination, decides
--- whether T has a proper divisor and gives α; the systems for P1 and R have one solution each, which is the value that the search defines.
+-- whether T has a proper divisor and gives α; the systems for P1 and R have one solution each.
 --   kernel-decides, trivial-kernel-decides   refusals 6 and 7
 --   alpha-of-kernel                          α from any such vector
 --   ratio-smallest                           c exists and is the smallest
---   express-of, find-r-of                    any solution of the system for P1, for R
---   alpha-regular, find-s-regular            these systems are regular: only 0 solves the homogeneous one
+--   alpha-powers, find-s-independent         the systems for P1 and R are regular: the powers of α1 and of S are independent
 use mathlib.Core.Path.{_≡_, sym, ap, _∙_}
 use mathlib.Core.Bool.{true, false, not, true≢false}
 use mathlib.Core.List.{List}
@@ -15,26 +14,19 @@ use Rattle.algebra.specs.Prime.{Prime}
 use Rattle.algebra.proofs.Equality.{equal-of, of-equal}
 use Rattle.quotient.specs.Divisor.{HasDivisor}
 use Rattle.quotient.specs.DivisorTest.{hasDivisor}
-use Rattle.quotient.specs.Residue.{Words, constant, power, residueOfX, scale, substitute}
+use Rattle.quotient.specs.Residue.{Words, constant, power, scale}
 use Rattle.quotient.proofs.Decision.{test-has-divisor, has-divisor-test, has-divisor?}
-use Rattle.quotient.proofs.Substitution.{zero-substitute}
-use Rattle.quotient.proofs.Words.{constant-words}
-use Rattle.finder.specs.Finder.{alpha, powerConstant, ratio, express, findS, findR}
+use Rattle.finder.specs.Finder.{alpha, powerConstant, ratio, findS}
 use Rattle.finder.specs.Theorem.{Smallest}
+use Rattle.finder.specs.Root.{OrderModulo}
+use Rattle.finder.specs.System.{Independent}
 use Rattle.finder.proofs.Alpha.{test-fails, alpha-normalised, alpha-kernel, alpha-independent, alpha-constant, power-constant-is}
 use Rattle.finder.proofs.ChosenPair.{ratio-found, chosen-words, chosen-independent, found-chosen}
-use Rattle.finder.proofs.Express.{Independent, express-unique}
 use Rattle.finder.proofs.Irreducible.{kernel-vector-exists, power-is-constant}
 use Rattle.finder.proofs.KernelVector.{KernelVector}
 use Rattle.finder.proofs.Leading.{normalised}
 use Rattle.finder.proofs.NoDivisor.{constant-positive, no-divisor}
 use Rattle.finder.proofs.ResidueConstants.{constant-is-word}
-use Rattle.finder.proofs.Zeta.{OrderModulo}
-
--- only 0 has the value 0
-regular : {p n : ℕ} {t s : List ℕ} → 2 ≤ p → Words p n t → Words p n s → Independent p n t s
-    → (f : List ℕ) → Words p n f → substitute p t s f ≡ constant n 0 → f ≡ constant n 0
-regular {n = n} big wt ws independent f wf e = independent f (constant n 0) wf (constant-words n (omega arith)) (e ∙ sym (zero-substitute big wt ws n))
 
 module _ (p : ℕ) (prime : Prime p) where
   -- the test decides
@@ -90,18 +82,14 @@ module _ (p : ℕ) (prime : Prime p) where
         constant-is-word prime wt (alpha p t z, kernel .words) (suc n) (powerConstant p t (alpha p t z)) value,
       )
 
-  -- the system P(α) = X
-  pub alpha-regular : (n : ℕ) (t : List ℕ) → 1 ≤ n → Words p n t → (z : ℕ) → OrderModulo p n z → hasDivisor p t ≡ false
-      → (f : List ℕ) → Words p n f → substitute p t (alpha p t z) f ≡ constant n 0 → f ≡ constant n 0
-  alpha-regular zero t low wt z order e = absurd (omega arith)
-  alpha-regular (suc n) t low wt z order e =
-      regular (prime .0) wt (alpha-kernel prime wt z order (test-irreducible wt e) .words) (alpha-independent prime wt z order (test-irreducible wt e))
+  pub alpha-words : (n : ℕ) (t : List ℕ) → 1 ≤ n → Words p n t → (z : ℕ) → OrderModulo p n z → hasDivisor p t ≡ false → Words p n (alpha p t z)
+  alpha-words zero t low wt z order e = absurd (omega arith)
+  alpha-words (suc n) t low wt z order e = alpha-kernel prime wt z order (test-irreducible wt e) .words
 
-  pub express-of : (n : ℕ) (t : List ℕ) → 1 ≤ n → Words p n t → (z : ℕ) → OrderModulo p n z → hasDivisor p t ≡ false
-      → (f : List ℕ) → Words p n f → substitute p t (alpha p t z) f ≡ residueOfX p t → express p t (alpha p t z) ≡ f
-  express-of zero t low wt z order e = absurd (omega arith)
-  express-of (suc n) t low wt z order e =
-      express-unique (prime .0) wt (alpha-kernel prime wt z order (test-irreducible wt e) .words) (alpha-independent prime wt z order (test-irreducible wt e))
+  -- the system P(α) = X is regular
+  pub alpha-powers : (n : ℕ) (t : List ℕ) → 1 ≤ n → Words p n t → (z : ℕ) → OrderModulo p n z → hasDivisor p t ≡ false → Independent p n t (alpha p t z)
+  alpha-powers zero t low wt z order e = absurd (omega arith)
+  alpha-powers (suc n) t low wt z order e = alpha-independent prime wt z order (test-irreducible wt e)
 
   -- c
   pub ratio-smallest : (n : ℕ) (t1 t2 : List ℕ) → 1 ≤ n → (p - 1) % n ≡ 0 → Words p n t1 → Words p n t2 → (z : ℕ) → z < p → OrderModulo p n z
@@ -114,23 +102,10 @@ module _ (p : ℕ) (prime : Prime p) where
       ratio-found prime w1 w2 z order below divides (alpha-kernel prime w1 z order i1) (alpha-kernel prime w2 z order i2) _ _
       (alpha-constant prime w1 z order i1) (alpha-constant prime w2 z order i2)
 
-  -- the system R(S) = X
+  -- the system R(S) = X is regular
   pub find-s-independent : (n : ℕ) (t1 t2 : List ℕ) → 1 ≤ n → n ≤ 16 → (p - 1) % n ≡ 0 → Words p n t1 → Words p n t2
       → hasDivisor p t1 ≡ false → hasDivisor p t2 ≡ false → Words p n (findS p n t1 t2) × Independent p n t2 (findS p n t1 t2)
   find-s-independent zero t1 t2 low high divides w1 w2 e1 e2 = absurd (omega arith)
   find-s-independent (suc n) t1 t2 low high divides w1 w2 e1 e2 =
       let h = found-chosen prime high divides w1 w2 (test-irreducible w1 e1) (test-irreducible w2 e2) in
       (chosen-words prime w1 w2 h, chosen-independent prime w1 w2 h)
-
-  module _ (n : ℕ) (t1 t2 : List ℕ) (low : 1 ≤ n) (high : n ≤ 16) (divides : (p - 1) % n ≡ 0) (w1 : Words p n t1) (w2 : Words p n t2)
-      (e1 : hasDivisor p t1 ≡ false) (e2 : hasDivisor p t2 ≡ false) where
-    pub find-s-regular : (f : List ℕ) → Words p n f → substitute p t2 (findS p n t1 t2) f ≡ constant n 0 → f ≡ constant n 0
-    find-s-regular =
-        let (words, independent) = find-s-independent n t1 t2 low high divides w1 w2 e1 e2 in
-        regular (prime .0) w2 words independent
-
-    pub find-r-of : (f : List ℕ) → Words p n f → substitute p t2 (findS p n t1 t2) f ≡ residueOfX p t2 → findR p n t1 t2 ≡ f
-    unfolding findR
-    find-r-of =
-        let (words, independent) = find-s-independent n t1 t2 low high divides w1 w2 e1 e2 in
-        express-unique (prime .0) w2 words independent

@@ -5,11 +5,10 @@
 use mathlib.Core.Path.{_≡_, refl, sym, ap, ap₂, _∙_}
 use mathlib.Core.Bool.{true, false, false≢true, true≢false}
 use mathlib.Core.List.{List, [], _∷_}
-use mathlib.Core.Logic.{⊎-elim}
 use Prim.Native.Nat.{ℕ, zero, suc, _+_, _*_, _%_, _^_, _≤_, _<_}
-use native.Mathlib.Nat.{eq-or-lt-of-le}
 use native.Mathlib.Numerals.{add-one}
 use native.Mathlib.Omega.{arith}
+use borrow.Author.Count.{below-more}
 use lib.ListN.{length, getD, take, drop, set, replicate, drop-of-length-le, getD-replicate}
 use lib.Seq.{drop-cons, getD-take, ext-getD}
 use Rattle.algebra.specs.Prime.{Prime}
@@ -86,7 +85,7 @@ normalised-is p i a u r ea ei er = er ∙ ap (λ k. padded (scale p k u)) (ei �
 pub record Constant (n : ℕ) (u : List ℕ) (i : ℕ) : Type 0 where
   pub from : 1 ≤ i
   pub to : i ≤ n
-  pub zeros : (j : ℕ) → 1 ≤ j → j < i → getD u j 0 ≡ 0
+  pub zeros : (j : ℕ) → j < i → 1 ≤ j → getD u j 0 ≡ 0
 
 constant-word : (n c j : ℕ) → 1 ≤ j → j < n → getD (constant n c) j 0 ≡ 0
 unfolding constant
@@ -104,19 +103,11 @@ constant-length n c = words-length (constant-words {p = suc c} n (omega arith))
 
 module _ (p n : ℕ) (u : List ℕ) where
   pub constant-start : 1 ≤ n → Constant n u 1
-  constant-start low = record { from = omega arith; to = low; zeros = λ j l g. absurd (omega arith) }
+  constant-start low = record { from = omega arith; to = low; zeros = λ j high low. absurd (omega arith) }
 
   module _ (h : Holds p n u) (i : ℕ) (c : Constant n u i) where
     pub constant-turn : i < n → getD u i 0 ≡ 0 → Constant n u (i + 1)
-    constant-turn less e =
-        record {
-          from = omega arith;
-          to = omega arith;
-          zeros = λ j low high. ⊎-elim (λ s. ap (λ k. getD u k 0) s ∙ e) (c .zeros j low) (eq-or-lt-of-le (below j high));
-        }
-      where
-        below : (j : ℕ) → j < i + 1 → j ≤ i
-        below j g = omega arith
+    constant-turn less e = record { from = omega arith; to = omega arith; zeros = below-more (λ j. 1 ≤ j → getD u j 0 ≡ 0) i (c .zeros) (λ _. e) }
 
     pub constant-fails : i < n → (getD u i 0 ≡ 0 → ⊥) → Decides false (take n u ≡ constant n (getD u 0 0))
     constant-fails less other =

@@ -18,7 +18,7 @@ use Rattle.algebra.proofs.Order.{HasOrder}
 use Rattle.algebra.proofs.OrderExists.{order-exists}
 use Rattle.modular.proofs.Field.{Below, wordRing, wordField, below-equal, one-value, power-value, nonzeroWords, nonzero-words, nonzero-words-length}
 use Rattle.finder.specs.Finder.{zeta}
-pub use Rattle.finder.specs.Root.{OrderModulo}
+use Rattle.finder.specs.Root.{OrderModulo}
 use Rattle.finder.specs.Theorem.{Smallest}
 use Rattle.finder.proofs.Constants.{numeral-injective}
 use Rattle.finder.proofs.Smallest.{first-is-smallest}

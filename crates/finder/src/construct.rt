@@ -1,12 +1,15 @@
 // The finder on arrays of 16 words: Algorithm 2.1 with the choices of document 01.
+ghost use mathlib.Core.Bool.{true};
 ghost use mathlib.Core.Path.{_≡_};
-ghost use Prim.Native.Nat.{_^_, _≤_};
+ghost use Prim.Native.Nat.{_^_, _≤_, _<_};
 ghost use lib.ListN.{take};
 ghost use Rattle.algebra.specs.Prime.{Prime};
 ghost use Rattle.residue.specs.Array.{padded, Holds};
-ghost use Rattle.finder.specs.Construct.{Eigenvectors, FoundPair};
-ghost use Rattle.finder.specs.Finder.{findS};
+ghost use Rattle.finder.specs.Construct.{Choices, FoundPair};
+ghost use Rattle.finder.specs.Finder.{zeta as zetaOf, findS};
+ghost use Rattle.finder.specs.Kernel.{Answer};
 ghost use Rattle.finder.specs.Root.{Admissible};
+use crate::frobenius::Alpha;
 use crate::frobenius::eigenvector;
 use crate::root::ratio;
 use crate::system::express;
@@ -14,24 +17,21 @@ use crate::unity::zeta;
 use crate::vector::scale;
 use residue::ring::substitute;
 
-// S = P1(c·α2) modulo T2, with P1(α1) = X modulo T1 and c^n·a2 = a1.
+// S = P1(c·α2) modulo T2, with P1(α1) = X modulo T1.
 fn forward(
     p: u64,
     n: usize,
-    z: u64,
+    c: u64,
     t1: &[u64; 16],
     t2: &[u64; 16],
     alpha1: &[u64; 16],
     alpha2: &[u64; 16],
-    a1: u64,
-    a2: u64,
 ) -> [u64; 16]
     requires { ⌜ Admissible p n ⌝ }
     requires { ⌜ Holds p n (now t1) × Holds p n (now t2) ⌝ }
-    requires { ⌜ Eigenvectors p n (take n (now t1)) (take n (now t2)) z (now alpha1) (now alpha2) a1 a2 ⌝ }
+    requires { ⌜ Choices p n (take n (now t1)) (take n (now t2)) c (now alpha1) (now alpha2) ⌝ }
     ensures { λ s. ⌜ s ≡ padded (findS p n (take n (now (t1 .entry))) (take n (now (t2 .entry)))) ⌝ }
 {
-    let c = ratio(p, n as u64, z, a1, a2);
     let p1 = express(p, n, t1, alpha1);
     let gamma = scale(p, n, c, alpha2);
     substitute(p, n, t2, &gamma, &p1)
@@ -44,24 +44,27 @@ pub struct Found {
     pub backward: [u64; 16],
 }
 
-// The pair from the two eigenvectors. R is the one polynomial with R(S) = X modulo T2.
+// The pair from the two eigenvectors: c, then S, and R, the one polynomial with R(S) = X modulo T2.
 fn pair(
     p: u64,
     n: usize,
     z: u64,
     t1: &[u64; 16],
     t2: &[u64; 16],
-    alpha1: &[u64; 16],
-    alpha2: &[u64; 16],
-    a1: u64,
-    a2: u64,
+    first: Alpha,
+    second: Alpha,
 ) -> Found
     requires { ⌜ Admissible p n ⌝ }
+    requires { ⌜ (z < p) × (z ≡ zetaOf p n) ⌝ }
     requires { ⌜ Holds p n (now t1) × Holds p n (now t2) ⌝ }
-    requires { ⌜ Eigenvectors p n (take n (now t1)) (take n (now t2)) z (now alpha1) (now alpha2) a1 a2 ⌝ }
+    requires { ⌜ Answer p n (take n (now t1)) z true (first .vector) (first .constant) ⌝ }
+    requires { ⌜ Answer p n (take n (now t2)) z true (second .vector) (second .constant) ⌝ }
     ensures { λ r. ⌜ FoundPair p n (take n (now (t1 .entry))) (take n (now (t2 .entry))) (r .number) (r .forward) (r .backward) ⌝ }
 {
-    let s = forward(p, n, z, t1, t2, alpha1, alpha2, a1, a2);
+    let c = ratio(p, n as u64, z, first.constant, second.constant);
+    let alpha1 = first.vector;
+    let alpha2 = second.vector;
+    let s = forward(p, n, c, t1, t2, &alpha1, &alpha2);
     Found {
         number: 0,
         forward: s,
@@ -95,19 +98,7 @@ fn construct(p: u64, n: usize, t1: &[u64; 16], t2: &[u64; 16]) -> Found
     if !second.found {
         return refusal(7);
     }
-    let alpha1 = first.vector;
-    let alpha2 = second.vector;
-    pair(
-        p,
-        n,
-        z,
-        t1,
-        t2,
-        &alpha1,
-        &alpha2,
-        first.constant,
-        second.constant,
-    )
+    pair(p, n, z, t1, t2, first, second)
 }
 
 // The same where n need not divide p − 1.

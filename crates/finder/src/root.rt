@@ -41,8 +41,23 @@ fn inverse_of_degree(m: u64, n: u64) -> u64
     0
 }
 
-// A number that is tried as a solution y of y^n = b. With p − 1 = n·m·d, m prime to n and every prime of d one of n, and r the inverse of n
-// modulo m, b^r is a solution up to a power of h = g^m, which has order n·d if g^((p − 1)/n) has order n.
+// The first of y, y·h, …, y·h^(q − 1) whose power with exponent k is x.
+fn adjust(p: u64, k: u64, x: u64, h: u64, q: u64, y: u64) -> u64
+    requires { ⌜ (0 < p) × (p ≤ 1048576) × (h < p) × (q ≤ 16) × (y < p) ⌝ }
+    ensures { λ r. ⌜ r < p ⌝ }
+{
+    let mut r = y;
+    let mut j = 0;
+    while j < q && power(p, r, k) != x {
+        r = mul(p, r, h);
+        j += 1;
+    }
+    r
+}
+
+// A number that is tried as a solution y of y^n = b. Let p − 1 = n·m·d, m prime to n and every prime of d one of n. If r is the inverse of n
+// modulo m, y = b^r has (b/y^n)^d = 1. If g^((p − 1)/n) has order n, h = g^m has order n·d, and y times a power of h with exponent below a
+// prime q of d satisfies the same with d/q for d; then h^q takes the place of h.
 fn candidate(p: u64, n: u64, g: u64, b: u64) -> u64
     requires { ⌜ Admissible p n ⌝ }
     requires { ⌜ (g < p) × (b < p) ⌝ }
@@ -50,15 +65,18 @@ fn candidate(p: u64, n: u64, g: u64, b: u64) -> u64
 {
     let k = (p - 1) / n;
     let m = coprime_part(k, n);
-    let h = power(p, g, m);
-    let f = power(p, h, n);
     let mut y = power(p, b, inverse_of_degree(m, n));
-    let mut x = power(p, y, n);
-    let mut j = k / m;
-    while j > 0 && x != b {
-        y = mul(p, y, h);
-        x = mul(p, x, f);
-        j -= 1;
+    let mut h = power(p, g, m);
+    let mut d = k / m;
+    let mut q = 2;
+    while q <= n && d > 1 {
+        if d % q == 0 {
+            d = d / q;
+            y = adjust(p, n * d, power(p, b, d), h, q, y);
+            h = power(p, h, q);
+        } else {
+            q += 1;
+        }
     }
     y
 }

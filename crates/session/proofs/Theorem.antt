@@ -1,5 +1,4 @@
 -- The proofs of what specs/Theorem.antt states of sessions.
-use mathlib.Core.Path.{_≡_}
 use Prim.Native.Nat.{_/_}
 use lib.ListN.{length}
 use Rattle.pair.specs.Pair.{forward, backward}

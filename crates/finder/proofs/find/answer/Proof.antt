@@ -1,25 +1,18 @@
+-- `answer` meets its contract: the arrays hold the lists.
 use borrow.Author.Needs.{needs}
 use Rattle.finder.proofs.FindAnswer.{first-short, second-short, first-holds, second-holds, answer-is}
 use Rattle.finder.proofs.find.answer.Statement.{statement}
 use Rattle.finder.proofs.find.answer.Tie as tie
-use Rattle.finder.proofs.find.answer.Reads as reads
-use Rattle.finder.proofs.find.answer.Lts as lts
-use Rattle.finder.proofs.construct.find_pair.Reads as find-pair-reads
-use Rattle.residue.proofs.array.load.Reads as load-reads
 
--- src/find.rt:34:38
 load-requires : tie.Need-load-requires
 load-requires c κs = search first-short
 
--- src/find.rt:34:49
 load-requires-2 : tie.Need-load-requires-2
 load-requires-2 c κs = search second-short
 
--- src/find.rt:34:5
 find-pair-requires : tie.Need-find-pair-requires
 find-pair-requires c κs = (search needs, (search needs, (search first-holds, search second-holds)))
 
--- src/find.rt:30:1
 returns : tie.Need-returns
 returns c = search answer-is
 

@@ -1,86 +1,76 @@
+-- `candidate` needs no more than that its words stay below p; the measure is d and what is left of the factors to try.
 use borrow.Author.Needs.{needs}
-use Prim.Native.Nat.{_<_}
-use Rattle.finder.proofs.RootScan.{index-positive, index-small}
+use Prim.Native.Nat.{_+_, _-_, _≤_, _<_}
+use Rattle.finder.proofs.RootScan.{index-positive, index-small, quotient-falls, quotient-small, exponent-fits, index-part-small}
 use Rattle.finder.proofs.root.candidate.Statement.{statement}
 use Rattle.finder.proofs.root.candidate.Tie as tie
-use Rattle.finder.proofs.root.candidate.Reads as reads
-use Rattle.finder.proofs.root.candidate.Lts as lts
-use Rattle.finder.proofs.root.coprime_part.Reads as coprime-part-reads
-use Rattle.finder.proofs.root.inverse_of_degree.Reads as inverse-of-degree-reads
-use Rattle.modular.proofs.word.mul.Reads as mul-reads
-use Rattle.modular.proofs.word.power.Reads as power-reads
 
 abbrev Inv-loop : tie.InvT-loop
-Inv-loop p n g b k m h f y₀ x₀ j₀ y x j = (y < p) × (x < p)
+Inv-loop p n g b k m y₀ h₀ d₀ q₀ y h d q = (y < p) × (h < p) × (d ≤ 1048576) × (2 ≤ q)
 
 abbrev μ-loop : tie.MeasureT-loop
-μ-loop p n g b k m h f y₀ x₀ j₀ y x j = j
+μ-loop p n g b k m y₀ h₀ d₀ q₀ y h d q = d + (17 - q)
 
--- src/root.rt:51:14
 sub-k : tie.Need-sub-k Inv-loop μ-loop
 sub-k c = search needs
 
--- src/root.rt:51:13
 div-k : tie.Need-div-k Inv-loop μ-loop
 div-k c = search needs
 
--- src/root.rt:52:9
 coprime-part-requires : tie.Need-coprime-part-requires Inv-loop μ-loop
 coprime-part-requires c κs = (search index-positive, search index-small, search needs)
 
--- src/root.rt:53:9
-power-requires : tie.Need-power-requires Inv-loop μ-loop
-power-requires c κs = search needs
-
--- src/root.rt:54:9
-power-requires-2 : tie.Need-power-requires-2 Inv-loop μ-loop
-power-requires-2 c κs = search needs
-
--- src/root.rt:55:29
 inverse-of-degree-requires : tie.Need-inverse-of-degree-requires Inv-loop μ-loop
 inverse-of-degree-requires c κs = search needs
 
--- src/root.rt:55:9
+power-requires : tie.Need-power-requires Inv-loop μ-loop
+power-requires c κs = search needs
+
+power-requires-2 : tie.Need-power-requires-2 Inv-loop μ-loop
+power-requires-2 c κs = search needs
+
+div-d : tie.Need-div-d Inv-loop μ-loop
+div-d c = search needs
+
+loop-holds : tie.Need-loop-holds Inv-loop μ-loop
+loop-holds c = (search needs, search needs, search index-part-small, search needs)
+
+rem-if2 : tie.Need-rem-if2 Inv-loop μ-loop
+rem-if2 c = search needs
+
+div-d-2 : tie.Need-div-d-2 Inv-loop μ-loop
+div-d-2 c = search needs
+
+mul-adjust : tie.Need-mul-adjust Inv-loop μ-loop
+mul-adjust c = search exponent-fits
+
 power-requires-3 : tie.Need-power-requires-3 Inv-loop μ-loop
 power-requires-3 c κs = search needs
 
--- src/root.rt:56:9
+adjust-requires : tie.Need-adjust-requires Inv-loop μ-loop
+adjust-requires c κs = search needs
+
 power-requires-4 : tie.Need-power-requires-4 Inv-loop μ-loop
 power-requires-4 c κs = search needs
 
--- src/root.rt:57:17
-div-j : tie.Need-div-j Inv-loop μ-loop
-div-j c = search needs
-
--- src/root.rt:58:5
-loop-holds : tie.Need-loop-holds Inv-loop μ-loop
-loop-holds c = search needs
-
--- src/root.rt:59:9
-mul-requires : tie.Need-mul-requires Inv-loop μ-loop
-mul-requires c κs = search needs
-
--- src/root.rt:60:9
-mul-requires-2 : tie.Need-mul-requires-2 Inv-loop μ-loop
-mul-requires-2 c κs = search needs
-
--- src/root.rt:61:9
-sub-j : tie.Need-sub-j Inv-loop μ-loop
-sub-j c = search needs
-
--- src/root.rt:58:5
 loop-less : tie.Need-loop-less Inv-loop μ-loop
-loop-less c = search needs
+loop-less c = search quotient-falls
 
--- src/root.rt:58:5
 loop-again : tie.Need-loop-again Inv-loop μ-loop
-loop-again c = search needs
+loop-again c = (search needs, search needs, search quotient-small, search needs)
 
--- src/root.rt:46:1
+add-q : tie.Need-add-q Inv-loop μ-loop
+add-q c = search needs
+
+loop-less-2 : tie.Need-loop-less-2 Inv-loop μ-loop
+loop-less-2 c = search needs
+
+loop-again-2 : tie.Need-loop-again-2 Inv-loop μ-loop
+loop-again-2 c = search needs
+
 returns : tie.Need-returns Inv-loop μ-loop
 returns c = search needs
 
--- src/root.rt:46:1
 returns-2 : tie.Need-returns-2 Inv-loop μ-loop
 returns-2 c = search needs
 
@@ -93,17 +83,21 @@ candidate-spec =
     sub-k
     div-k
     coprime-part-requires
+    inverse-of-degree-requires
     power-requires
     power-requires-2
-    inverse-of-degree-requires
-    power-requires-3
-    power-requires-4
-    div-j
+    div-d
     loop-holds
-    mul-requires
-    mul-requires-2
-    sub-j
+    rem-if2
+    div-d-2
+    mul-adjust
+    power-requires-3
+    adjust-requires
+    power-requires-4
     loop-less
     loop-again
+    add-q
+    loop-less-2
+    loop-again-2
     returns
     returns-2)

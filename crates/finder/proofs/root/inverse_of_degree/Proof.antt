@@ -1,9 +1,8 @@
+-- `inverse_of_degree` adds m at most n times.
 use borrow.Author.Needs.{needs}
 use Prim.Native.Nat.{_+_, _*_, _-_, _≤_}
 use Rattle.finder.proofs.root.inverse_of_degree.Statement.{statement}
 use Rattle.finder.proofs.root.inverse_of_degree.Tie as tie
-use Rattle.finder.proofs.root.inverse_of_degree.Reads as reads
-use Rattle.finder.proofs.root.inverse_of_degree.Lts as lts
 
 abbrev Inv-loop : tie.InvT-loop
 Inv-loop m n x₀ k₀ x k = x ≤ 1 + 1048576 * k
@@ -11,39 +10,30 @@ Inv-loop m n x₀ k₀ x k = x ≤ 1 + 1048576 * k
 abbrev μ-loop : tie.MeasureT-loop
 μ-loop m n x₀ k₀ x k = n - k
 
--- src/root.rt:34:5
 loop-holds : tie.Need-loop-holds Inv-loop μ-loop
 loop-holds c = search needs
 
--- src/root.rt:35:12
 rem-if1 : tie.Need-rem-if1 Inv-loop μ-loop
 rem-if1 c = search needs
 
--- src/root.rt:36:20
 div-result : tie.Need-div-result Inv-loop μ-loop
 div-result c = search needs
 
--- src/root.rt:36:13
 returns : tie.Need-returns Inv-loop μ-loop
 returns c = search needs
 
--- src/root.rt:38:9
 add-x : tie.Need-add-x Inv-loop μ-loop
 add-x c = search needs
 
--- src/root.rt:39:9
 add-k : tie.Need-add-k Inv-loop μ-loop
 add-k c = search needs
 
--- src/root.rt:34:5
 loop-less : tie.Need-loop-less Inv-loop μ-loop
 loop-less c = search needs
 
--- src/root.rt:34:5
 loop-again : tie.Need-loop-again Inv-loop μ-loop
 loop-again c = search needs
 
--- src/root.rt:29:1
 returns-2 : tie.Need-returns-2 Inv-loop μ-loop
 returns-2 c = search needs
 

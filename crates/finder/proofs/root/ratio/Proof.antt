@@ -1,13 +1,10 @@
+-- `ratio` keeps the least of the multiples of one solution by the powers of ζ; every solution is one of them.
 use borrow.Author.Needs.{needs}
 use mathlib.Core.Logic.{⊎-elim}
 use Prim.Native.Nat.{_-_}
 use Rattle.finder.proofs.RootScan.{Least, least-start, least-lower, least-same, least-end}
 use Rattle.finder.proofs.root.ratio.Statement.{statement}
 use Rattle.finder.proofs.root.ratio.Tie as tie
-use Rattle.finder.proofs.root.ratio.Reads as reads
-use Rattle.finder.proofs.root.ratio.Lts as lts
-use Rattle.finder.proofs.root.solution.Reads as solution-reads
-use Rattle.modular.proofs.word.mul.Reads as mul-reads
 
 abbrev Inv-loop : tie.InvT-loop
 Inv-loop p n z a1 a2 x₀ least₀ k₀ x least k = Least p n z a1 a2 x₀ least x k
@@ -15,31 +12,24 @@ Inv-loop p n z a1 a2 x₀ least₀ k₀ x least k = Least p n z a1 a2 x₀ least
 abbrev μ-loop : tie.MeasureT-loop
 μ-loop p n z a1 a2 x₀ least₀ k₀ x least k = n - k
 
--- src/root.rt:98:9
 solution-requires : tie.Need-solution-requires Inv-loop μ-loop
 solution-requires c κs = search needs
 
--- src/root.rt:101:5
 loop-holds : tie.Need-loop-holds Inv-loop μ-loop
 loop-holds c = search least-start
 
--- src/root.rt:102:9
 mul-requires : tie.Need-mul-requires Inv-loop μ-loop
 mul-requires c κs = search needs
 
--- src/root.rt:106:9
 add-k : tie.Need-add-k Inv-loop μ-loop
 add-k c = search needs
 
--- src/root.rt:101:5
 loop-less : tie.Need-loop-less Inv-loop μ-loop
 loop-less c = search needs
 
--- src/root.rt:101:5
 loop-again : tie.Need-loop-again Inv-loop μ-loop
 loop-again c = ⊎-elim (λ w. search least-lower) (λ w. search least-same) (c .if1 .came)
 
--- src/root.rt:92:1
 returns : tie.Need-returns Inv-loop μ-loop
 returns c = (search least-end, search needs)
 

@@ -1,3 +1,4 @@
+-- `columns` copies the words of the table, read by columns.
 use borrow.Author.Needs.{needs}
 use Prim.Native.Nat.{_-_, _*_}
 use Rattle.finder.proofs.PowerSystem.{Turned, turned-start, turned-turn, turned-end}

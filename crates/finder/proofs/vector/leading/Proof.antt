@@ -1,10 +1,9 @@
+-- `leading` scans the words from the first on.
 use borrow.Author.Needs.{needs}
 use Prim.Native.Nat.{_-_}
 use Rattle.finder.proofs.VectorScan.{Leading, leading-start, leading-turn, leading-found, leading-none}
 use Rattle.finder.proofs.vector.leading.Statement.{statement}
 use Rattle.finder.proofs.vector.leading.Tie as tie
-use Rattle.finder.proofs.vector.leading.Reads as reads
-use Rattle.finder.proofs.vector.leading.Lts as lts
 
 abbrev Inv-loop : tie.InvT-loop
 Inv-loop p n u i₀ i = Leading n u i
@@ -12,43 +11,33 @@ Inv-loop p n u i₀ i = Leading n u i
 abbrev μ-loop : tie.MeasureT-loop
 μ-loop p n u i₀ i = n - i
 
--- src/vector.rt:36:5
 loop-holds : tie.Need-loop-holds Inv-loop μ-loop
 loop-holds c = search leading-start
 
--- src/vector.rt:37:12
 mul-if1 : tie.Need-mul-if1 Inv-loop μ-loop
 mul-if1 c = search needs
 
--- src/vector.rt:37:12
 element-copy-out-if1 : tie.Need-element-copy-out-if1 Inv-loop μ-loop
 element-copy-out-if1 c = search needs
 
--- src/vector.rt:38:20
 mul-result : tie.Need-mul-result Inv-loop μ-loop
 mul-result c = search needs
 
--- src/vector.rt:38:20
 element-copy-out-result : tie.Need-element-copy-out-result Inv-loop μ-loop
 element-copy-out-result c = search needs
 
--- src/vector.rt:38:13
 returns : tie.Need-returns Inv-loop μ-loop
 returns c = search leading-found
 
--- src/vector.rt:40:9
 add-i : tie.Need-add-i Inv-loop μ-loop
 add-i c = search needs
 
--- src/vector.rt:36:5
 loop-less : tie.Need-loop-less Inv-loop μ-loop
 loop-less c = search needs
 
--- src/vector.rt:36:5
 loop-again : tie.Need-loop-again Inv-loop μ-loop
 loop-again c = search leading-turn
 
--- src/vector.rt:30:1
 returns-2 : tie.Need-returns-2 Inv-loop μ-loop
 returns-2 c = search leading-none
 

@@ -1,3 +1,4 @@
+-- `scale` writes the words of c·u one after another.
 use borrow.Author.Needs.{needs}
 use mathlib.Core.Path.{_≡_}
 use Prim.Native.Nat.{_-_, _≤_}
@@ -5,9 +6,6 @@ use Rattle.residue.proofs.Painted.{painted, painted-none}
 use Rattle.finder.proofs.VectorScan.{scaledWord, word-small, scale-turn, scale-done}
 use Rattle.finder.proofs.vector.scale.Statement.{statement}
 use Rattle.finder.proofs.vector.scale.Tie as tie
-use Rattle.finder.proofs.vector.scale.Reads as reads
-use Rattle.finder.proofs.vector.scale.Lts as lts
-use Rattle.modular.proofs.word.mul.Reads as mul-reads
 
 abbrev Inv-loop : tie.InvT-loop
 Inv-loop p n c u w₀ i₀ w i = (i ≤ n) × (w ≡ painted w₀ (scaledWord p c u) i)
@@ -15,43 +13,33 @@ Inv-loop p n c u w₀ i₀ w i = (i ≤ n) × (w ≡ painted w₀ (scaledWord p 
 abbrev μ-loop : tie.MeasureT-loop
 μ-loop p n c u w₀ i₀ w i = n - i
 
--- src/vector.rt:22:5
 loop-holds : tie.Need-loop-holds Inv-loop μ-loop
 loop-holds c = (search needs, search painted-none)
 
--- src/vector.rt:23:26
 mul-mul : tie.Need-mul-mul Inv-loop μ-loop
 mul-mul c = search needs
 
--- src/vector.rt:23:26
 element-copy-out-mul : tie.Need-element-copy-out-mul Inv-loop μ-loop
 element-copy-out-mul c = search needs
 
--- src/vector.rt:23:16
 mul-requires : tie.Need-mul-requires Inv-loop μ-loop
 mul-requires c κs = (search needs, search needs, search word-small)
 
--- src/vector.rt:23:9
 mul-w : tie.Need-mul-w Inv-loop μ-loop
 mul-w c = search needs
 
--- src/vector.rt:23:9
 array-write-w : tie.Need-array-write-w Inv-loop μ-loop
 array-write-w c = search needs
 
--- src/vector.rt:24:9
 add-i : tie.Need-add-i Inv-loop μ-loop
 add-i c = search needs
 
--- src/vector.rt:22:5
 loop-less : tie.Need-loop-less Inv-loop μ-loop
 loop-less c = search needs
 
--- src/vector.rt:22:5
 loop-again : tie.Need-loop-again Inv-loop μ-loop
 loop-again c = (search needs, search scale-turn)
 
--- src/vector.rt:15:1
 returns : tie.Need-returns Inv-loop μ-loop
 returns c = search scale-done
 
