@@ -112,8 +112,8 @@ static void row(const char *what, runner *runners, size_t count) {
     double ours = runners[0].sample[ROUNDS / 2];
     printf("| %-22s | %9.2f | %9.2f |", what, ours / 1000, runners[0].sample[0] / 1000);
     for (size_t k = 1; k < count; k++)
-        printf(" %s %.2f (%.2f) |", runners[k].name, runners[k].sample[ROUNDS / 2] / 1000, ours / runners[k].sample[ROUNDS / 2]);
-    printf("\n");
+        printf("%s %s %.2f (%.2f)", k > 1 ? "," : "", runners[k].name, runners[k].sample[ROUNDS / 2] / 1000, ours / runners[k].sample[ROUNDS / 2]);
+    printf(" |\n");
 }
 
 static void prepare(void) {

@@ -5,7 +5,10 @@
 
 static uint64_t p, t2[LARGEST_DEGREE], s[LARGEST_DEGREE], r[LARGEST_DEGREE], powers[LARGEST_DEGREE][LARGEST_DEGREE];
 static size_t n, words;
-static uint16_t table[LARGEST_TABLE], image[LARGEST_TABLE];
+static uint16_t table[LARGEST_TABLE];
+
+/* visible from outside, so that no store can be left out */
+uint16_t plain_image[LARGEST_TABLE];
 
 static void multiply(const uint64_t *t, const uint64_t *u, const uint64_t *v, uint64_t *out) {
     uint64_t w[LARGEST_DEGREE] = {0};
@@ -42,7 +45,7 @@ static int convert(void) {
             uint64_t sum = 0;
             for (size_t k = 0; k < n; k++)
                 sum += powers[k][i] * table[g + k];
-            image[g + i] = (uint16_t)(sum % p);
+            plain_image[g + i] = (uint16_t)(sum % p);
         }
     return 1;
 }
