@@ -1,24 +1,41 @@
 //! The program `fieldcard`, run on cards of both kinds, damaged ones, refusals of each number that it can give, the longest card, no
-//! input and input that is too long.
+//! input, a closed input, input in parts and input that is too long.
 
 use super::Tally;
 use crate::document::card;
 use crate::random::Random;
 use std::io::Write;
 use std::process::{Command, Stdio};
+use std::thread::sleep;
+use std::time::Duration;
 
-fn printed(input: &[u8]) -> String {
-    let program = concat!(env!("CARGO_MANIFEST_DIR"), "/../../target/bin/fieldcard");
-    let mut child = Command::new(program).stdin(Stdio::piped()).stdout(Stdio::piped()).spawn().expect("the program fieldcard");
-    // a program that has read enough may close its input first
-    let _ = child.stdin.take().unwrap().write_all(input);
+const PROGRAM: &str = concat!(env!("CARGO_MANIFEST_DIR"), "/../../target/bin/fieldcard");
+
+/// What the program prints when its input comes in these parts, one after the other, so that reads fall short.
+fn printed(parts: &[&[u8]]) -> String {
+    let mut child = Command::new(PROGRAM).stdin(Stdio::piped()).stdout(Stdio::piped()).spawn().expect("the program fieldcard");
+    let mut input = child.stdin.take().unwrap();
+    for (k, part) in parts.iter().enumerate() {
+        if k > 0 {
+            sleep(Duration::from_millis(30));
+        }
+        // a program that has read enough may close its input first
+        let _ = input.write_all(part);
+    }
+    drop(input);
     String::from_utf8(child.wait_with_output().unwrap().stdout).unwrap()
+}
+
+/// What it prints when its standard input is closed.
+fn printed_without_input() -> String {
+    let shell = Command::new("sh").args(["-c", "exec \"$0\" <&-", PROGRAM]).output().expect("a shell");
+    String::from_utf8(shell.stdout).unwrap()
 }
 
 fn compare(input: &[u8], tally: &mut Tally) {
     let want = card::fieldcard(input);
     let number = want.strip_prefix("REFUSED ").map_or(0, |word| word.trim().parse().unwrap());
-    tally.compare("fieldcard", number, &input, &printed(input), &want);
+    tally.compare("fieldcard", number, &input, &printed(&[input]), &want);
 }
 
 fn random_card(random: &mut Random) -> Vec<u8> {
@@ -48,6 +65,9 @@ fn random_card(random: &mut Random) -> Vec<u8> {
 pub fn run(rounds: u64, tally: &mut Tally) {
     let random = &mut Random::new(0xbf58_476d_1ce4_e5b9);
     compare(&[], tally);
+    tally.compare("fieldcard", 11, &"closed input", &printed_without_input(), &card::fieldcard(&[]));
+    let parts: [&[u8]; 3] = [&[0x00], &[0x03, 0x11], &[0x49]];
+    tally.compare("fieldcard", 0, &"short reads", &printed(&parts), &card::fieldcard(&parts.concat()));
     compare(&[0x00, 0x03, 0x11, 0x49], tally);
     compare(&[0x00, 0x03, 0x12, 0x49, 0x66], tally);
     compare(&card::card(65_521, 16, 2, &[1; 64]), tally);
