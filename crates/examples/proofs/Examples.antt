@@ -17,7 +17,7 @@ use Rattle.quotient.specs.Divisor.{monic, polynomialProduct}
 use Rattle.quotient.specs.DivisorTest.{hasDivisor}
 use Rattle.quotient.specs.Residue.{sum, scale, constant, shift, top, timesX, product, power, residueOfX, substitute, modulusAt}
 use Rattle.quotient.proofs.Refusal.{refuse-none}
-use Rattle.residue.specs.Array.{padded}
+use Rattle.quotient.specs.Array.{padded}
 use Rattle.session.specs.Session.{whole, viewAs, view, pairedSession, converted, tableNumber, convertNumber, imageForward, imageBack, forwardOutput, backOutput}
 use Rattle.examples.specs.Examples.{Found, Examples}
 use Rattle.examples.proofs.Root.{root}

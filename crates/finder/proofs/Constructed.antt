@@ -12,8 +12,8 @@ use Rattle.modular.specs.Refusal.{refuse}
 use Rattle.quotient.specs.DivisorTest.{hasDivisor}
 use Rattle.quotient.specs.Residue.{Words, scale, substitute}
 use Rattle.quotient.proofs.Words.{scale-words}
-use Rattle.residue.specs.Array.{padded, Holds}
-use Rattle.residue.proofs.Padded.{front-is, holds-is}
+use Rattle.quotient.specs.Array.{padded, Holds}
+use Rattle.quotient.proofs.Padded.{front-is, holds-is}
 use Rattle.finder.specs.Construct.{Choices, pairNumber, FoundPair}
 use Rattle.finder.specs.Finder.{zeta, alpha, powerConstant, ratio, express, findS, findR}
 use Rattle.finder.specs.Kernel.{Answer}

@@ -7,7 +7,7 @@ use native.Mathlib.Decide.{ℕ-discrete}
 use native.Mathlib.Omega.{arith}
 use lib.ListN.{length, set, length-set}
 use lib.Seq.{getD-set-same, getD-set-other}
-use Rattle.linear.specs.System.{entry, Square}
+use Rattle.quotient.specs.Array.{entry, Square}
 use Rattle.finder.specs.Kernel.{Shifted}
 
 pub record Diagonal (p z k : ℕ) (m c : List ℕ) : Type 0 where

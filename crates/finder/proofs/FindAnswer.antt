@@ -16,9 +16,9 @@ use Rattle.quotient.specs.DivisorTest.{hasDivisor}
 use Rattle.quotient.specs.Residue.{Words}
 use Rattle.quotient.proofs.Refusal as Refusal
 use Rattle.quotient.proofs.Words.{words-length}
-use Rattle.residue.specs.Array.{padded, Holds}
+use Rattle.quotient.specs.Array.{padded, Holds}
 use Rattle.residue.proofs.Answers.{output-new, output-old, words-up}
-use Rattle.residue.proofs.Padded.{front-is, holds-is}
+use Rattle.quotient.proofs.Padded.{front-is, holds-is}
 use Rattle.pair.proofs.Refusals.{first-stays}
 use Rattle.finder.specs.Construct.{pairNumber, FoundPair}
 use Rattle.finder.specs.Finder.{findS, findR, findNumber, findOutputS, findOutputR}

@@ -10,16 +10,16 @@ use native.Mathlib.Nat.{add-assoc, add-comm, add-mul, add-mul-mod-self-left, add
 use native.Mathlib.Omega.{arith}
 use lib.ListN.{length, getD, take, replicate}
 use Rattle.algebra.specs.Prime.{Prime}
-use Rattle.linear.specs.System.{entry, rowProduct, Solves, Square, Vector, Outcome}
+use Rattle.quotient.specs.Array.{entry, rowProduct, Square, padded, Holds}
+use Rattle.linear.specs.System.{Solves, Vector, Outcome}
 use Rattle.linear.proofs.Congruence.{sum-congruent, product-congruent}
 use Rattle.linear.proofs.Vectors.{words-same, words-below}
 use Rattle.quotient.specs.Residue.{Words, scale, power, residueOfX, substitute}
 use Rattle.quotient.proofs.Frobenius.{frobenius-substitutes}
 use Rattle.quotient.proofs.Words.{words-length, constant-zero, power-words, residueOfX-words, scale-words, substitute-words, zeros-words}
-use Rattle.residue.specs.Array.{padded, Holds}
 use Rattle.residue.specs.Table.{Powers}
 use Rattle.residue.proofs.Combination.{inner, scale-word}
-use Rattle.residue.proofs.Padded.{front-is, holds-is, padded-zeros}
+use Rattle.quotient.proofs.Padded.{front-is, holds-is, padded-zeros}
 use Rattle.finder.specs.Kernel.{Shifted, Kernel}
 use Rattle.finder.specs.System.{Columns}
 use Rattle.finder.proofs.PowerSystem.{row-inner, system-word, columns-square, vector-holds, holds-vector}

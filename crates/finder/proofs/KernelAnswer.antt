@@ -12,8 +12,8 @@ use Rattle.modular.specs.Inverse.{inverse}
 use Rattle.quotient.specs.DivisorTest.{hasDivisor}
 use Rattle.quotient.specs.Residue.{Words, scale, constant, power}
 use Rattle.quotient.proofs.Words.{words-length, power-words, scale-words}
-use Rattle.residue.specs.Array.{padded, Holds}
-use Rattle.residue.proofs.Padded.{front-is, holds-is}
+use Rattle.quotient.specs.Array.{padded, Holds}
+use Rattle.quotient.proofs.Padded.{front-is, holds-is}
 use Rattle.finder.specs.Finder.{leading, alpha, powerConstant}
 use Rattle.finder.specs.Kernel.{Kernel, Answer}
 use Rattle.finder.specs.Root.{Decides, Admissible, OrderModulo}

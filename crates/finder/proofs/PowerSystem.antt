@@ -11,15 +11,15 @@ use native.Mathlib.Omega.{arith}
 use lib.ListN.{length, getD, take, set, replicate, length-set, length-replicate, getD-replicate}
 use lib.Seq.{getD-set-same, getD-set-other, getD-take}
 use Rattle.algebra.specs.Prime.{Prime}
-use Rattle.linear.specs.System.{entry, rowProduct, Square, Vector, Singular, Outcome}
+use Rattle.quotient.specs.Array.{entry, rowProduct, Square, padded, Holds}
+use Rattle.linear.specs.System.{Vector, Singular, Outcome}
 use Rattle.linear.proofs.Vectors.{words-same, words-below}
 use Rattle.quotient.specs.Residue.{Words, constant, residueOfX, substitute}
 use Rattle.quotient.proofs.Substitution.{zero-substitute}
 use Rattle.quotient.proofs.Words.{words-length, constant-words, constant-zero, substitute-words, residueOfX-words}
-use Rattle.residue.specs.Array.{padded, Holds}
 use Rattle.residue.specs.Table.{Powers}
 use Rattle.residue.proofs.Combination.{inner, substitute-word, table-of-powers}
-use Rattle.residue.proofs.Padded.{front-is, holds-is}
+use Rattle.quotient.proofs.Padded.{front-is, holds-is}
 use Rattle.finder.specs.Finder.{express}
 use Rattle.finder.specs.System.{Columns, Independent}
 use Rattle.finder.proofs.Express.{express-unique}

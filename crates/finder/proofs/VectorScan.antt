@@ -15,9 +15,9 @@ use Rattle.algebra.specs.Prime.{Prime}
 use Rattle.modular.specs.Inverse.{inverse}
 use Rattle.quotient.specs.Residue.{scale, constant}
 use Rattle.quotient.proofs.Words.{words-length, constant-words}
-use Rattle.residue.specs.Array.{padded, Holds}
-use Rattle.residue.proofs.Padded.{holds-word, array-fits, padded-zeros, take-zeros, painted-array}
-use Rattle.residue.proofs.Painted.{painted, table, painted-next}
+use Rattle.quotient.specs.Array.{padded, Holds}
+use Rattle.quotient.proofs.Padded.{holds-word, array-fits, padded-zeros, take-zeros, painted-array}
+use Rattle.quotient.proofs.Painted.{painted, table, painted-next}
 use Rattle.finder.specs.Finder.{leading}
 use Rattle.finder.specs.Root.{Decides}
 use Rattle.finder.proofs.Leading.{leading-zero, leading-nonzero, leading-nil, leading-positive, leading-below}

@@ -9,7 +9,7 @@ use Prim.Native.Nat.{ℕ, _-_, _%_, _<_}
 use lib.Dec.{eqb}
 use Rattle.modular.specs.Refusal.{refuse}
 use Rattle.quotient.specs.DivisorTest.{hasDivisor}
-use Rattle.residue.specs.Array.{padded}
+use Rattle.quotient.specs.Array.{padded}
 use Rattle.finder.specs.Finder.{zeta, alpha, powerConstant, ratio, findS, findR}
 
 pub record Choices (p n : ℕ) (t1 t2 : List ℕ) (c : ℕ) (x y : List ℕ) : Type 0 where

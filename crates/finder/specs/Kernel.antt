@@ -7,10 +7,9 @@ use mathlib.Core.Bool.{Bool, true, false, not}
 use mathlib.Core.List.{List}
 use Prim.Native.Nat.{ℕ, _+_, _-_, _%_, _<_}
 use lib.ListN.{length, take}
-use Rattle.linear.specs.System.{entry}
+use Rattle.quotient.specs.Array.{entry, padded, Holds}
 use Rattle.quotient.specs.DivisorTest.{hasDivisor}
 use Rattle.quotient.specs.Residue.{Words, scale, constant, power}
-use Rattle.residue.specs.Array.{padded, Holds}
 use Rattle.finder.specs.Finder.{alpha, powerConstant}
 
 pub record Shifted (p n z : ℕ) (m c : List ℕ) : Type 0 where

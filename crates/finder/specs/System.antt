@@ -6,7 +6,7 @@ use mathlib.Core.List.{List}
 use Prim.Native.Nat.{ℕ, _+_, _*_, _<_}
 use lib.ListN.{length, getD}
 use Rattle.quotient.specs.Residue.{Words, substitute}
-use Rattle.linear.specs.System.{entry}
+use Rattle.quotient.specs.Array.{entry}
 
 pub record Columns (n : ℕ) (m c : List ℕ) : Type 0 where
   pub size : length c ≡ 256

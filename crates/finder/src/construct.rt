@@ -4,7 +4,7 @@ ghost use mathlib.Core.Path.{_≡_};
 ghost use Prim.Native.Nat.{_^_, _≤_, _<_};
 ghost use lib.ListN.{take};
 ghost use Rattle.algebra.specs.Prime.{Prime};
-ghost use Rattle.residue.specs.Array.{padded, Holds};
+ghost use Rattle.quotient.specs.Array.{padded, Holds};
 ghost use Rattle.finder.specs.Construct.{Choices, FoundPair};
 ghost use Rattle.finder.specs.Finder.{zeta as zetaOf, findS};
 ghost use Rattle.finder.specs.Kernel.{Answer};

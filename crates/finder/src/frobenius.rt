@@ -3,8 +3,7 @@
 ghost use Prim.Native.Nat.{_^_, _≤_, _<_};
 ghost use lib.ListN.{take};
 ghost use Rattle.algebra.specs.Prime.{Prime};
-ghost use Rattle.linear.specs.System.{Square};
-ghost use Rattle.residue.specs.Array.{Holds};
+ghost use Rattle.quotient.specs.Array.{Square, Holds};
 ghost use Rattle.finder.specs.Kernel.{Shifted, Kernel, Answer};
 ghost use Rattle.finder.specs.Root.{Admissible, OrderModulo};
 use crate::system::columns;

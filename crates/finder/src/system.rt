@@ -3,7 +3,7 @@ ghost use mathlib.Core.Path.{_≡_};
 ghost use Prim.Native.Nat.{_^_, _≤_};
 ghost use lib.ListN.{length, take};
 ghost use Rattle.algebra.specs.Prime.{Prime};
-ghost use Rattle.residue.specs.Array.{padded, Holds};
+ghost use Rattle.quotient.specs.Array.{padded, Holds};
 ghost use Rattle.finder.specs.Finder.{express as expressOf};
 ghost use Rattle.finder.specs.System.{Columns, Independent};
 use linear::system::solve;

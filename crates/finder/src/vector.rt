@@ -5,7 +5,7 @@ ghost use lib.ListN.{getD, take};
 ghost use Rattle.algebra.specs.Prime.{Prime};
 ghost use Rattle.modular.specs.Inverse.{inverse as inverseOf};
 ghost use Rattle.quotient.specs.Residue.{scale as scaleOf, constant};
-ghost use Rattle.residue.specs.Array.{padded, Holds};
+ghost use Rattle.quotient.specs.Array.{padded, Holds};
 ghost use Rattle.finder.specs.Finder.{leading as leadingOf};
 ghost use Rattle.finder.specs.Root.{Decides};
 use modular::word::inverse;

@@ -11,7 +11,8 @@ use Rattle.quotient.specs.Residue.{Words}
 use Rattle.linear.proofs.Pivoting.{equivalent-refl, equivalent-trans}
 use Rattle.linear.proofs.Sum.{product-single}
 use Rattle.linear.proofs.Vectors.{words-length, words-below, words-same, words-zero, zero-beyond, vector-words, vector-size, vector-below, vector-zeros}
-use Rattle.linear.specs.System.{rowProduct, Solves, Square, Vector, Regular, Singular, Outcome}
+use Rattle.quotient.specs.Array.{rowProduct, Square}
+use Rattle.linear.specs.System.{Solves, Vector, Regular, Singular, Outcome}
 use Rattle.linear.specs.Elimination.{Modulus, Identity, Reduced, SolvesTimes, Equivalent, Advanced, Pivot}
 
 nothing : (x : ℕ) → 0 * x ≡ 0

@@ -10,7 +10,8 @@ use lib.ListN.{length, getD, take, set, replicate, length-set}
 use lib.Seq.{getD-set-same, getD-set-other, getD-take}
 use Rattle.linear.proofs.Sum.{product-zero, product-double}
 use Rattle.linear.proofs.Vectors.{words-length, zero-beyond, vector-words}
-use Rattle.linear.specs.System.{entry, rowProduct, Vector, Singular}
+use Rattle.quotient.specs.Array.{entry, rowProduct}
+use Rattle.linear.specs.System.{Vector, Singular}
 use Rattle.linear.specs.Elimination.{Identity, Pivot}
 
 pub record Filled (p c k : ℕ) (m v : List ℕ) : Type 0 where

@@ -2,7 +2,8 @@
 ghost use Prim.Native.Nat.{_≤_, _<_};
 ghost use lib.ListN.{take};
 ghost use Rattle.algebra.specs.Prime.{Prime};
-ghost use Rattle.linear.specs.System.{Square, Vector, Singular, Outcome};
+ghost use Rattle.quotient.specs.Array.{Square};
+ghost use Rattle.linear.specs.System.{Vector, Singular, Outcome};
 ghost use Rattle.linear.specs.Elimination.{Identity, Pivot};
 use crate::column::eliminate;
 use crate::column::find_pivot;

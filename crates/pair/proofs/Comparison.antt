@@ -13,7 +13,7 @@ use borrow.Author.Tests.{eq-eqb, ne-eqb}
 use Rattle.algebra.specs.Lists.{equal}
 use Rattle.quotient.specs.Residue.{sum, constant}
 use Rattle.quotient.proofs.Words.{words-length, sum-words, constant-zero}
-use Rattle.residue.specs.Array.{Holds}
+use Rattle.quotient.specs.Array.{Holds}
 use Rattle.residue.proofs.Combination.{sum-word}
 
 pub record Left (n : ℕ) (xs ys : List ℕ) (i : ℕ) : Type 0 where

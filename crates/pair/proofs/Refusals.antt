@@ -11,8 +11,8 @@ use Rattle.modular.specs.Refusal.{refuse, badPrime, badDegree, badLength, badWo
 use Rattle.quotient.specs.Residue.{Words}
 use Rattle.quotient.proofs.Refusal as Refusal
 use Rattle.quotient.proofs.Words.{words-length}
-use Rattle.residue.specs.Array.{padded, Holds}
-use Rattle.residue.proofs.Padded.{holds-is, front-is}
+use Rattle.quotient.specs.Array.{padded, Holds}
+use Rattle.quotient.proofs.Padded.{holds-is, front-is}
 use Rattle.pair.specs.Pair.{accepts, checkNumber}
 use Rattle.pair.specs.Theorem.{Given}
 

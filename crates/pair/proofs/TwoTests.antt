@@ -9,10 +9,10 @@ use borrow.Author.Tests.{not-true, not-false}
 use Rattle.algebra.specs.Lists.{equal}
 use Rattle.quotient.specs.Residue.{Words, sum, constant, product, power, residueOfX, substitute, modulusAt}
 use Rattle.quotient.proofs.Words.{words-length, power-words, substitute-words, residueOfX-words}
-use Rattle.residue.specs.Array.{padded, Holds}
+use Rattle.quotient.specs.Array.{padded, Holds}
 use Rattle.residue.specs.Table.{Powers, combination}
 use Rattle.residue.proofs.Combination.{row-is-power, combine-is-substitute}
-use Rattle.residue.proofs.Padded.{array-length, holds-is, front-is}
+use Rattle.quotient.proofs.Padded.{array-length, holds-is, front-is}
 use Rattle.pair.specs.Pair.{accepts}
 use Rattle.pair.proofs.Accepts as Accepts
 

@@ -10,7 +10,7 @@ ghost use Prim.Native.Nat.{_^_, _≤_};
 ghost use lib.ListN.{length, take};
 ghost use Rattle.algebra.specs.Lists.{equal};
 ghost use Rattle.quotient.specs.Residue.{constant, sum, residueOfX, modulusAt};
-ghost use Rattle.residue.specs.Array.{Holds};
+ghost use Rattle.quotient.specs.Array.{Holds};
 ghost use Rattle.residue.specs.Table.{Powers};
 ghost use Rattle.pair.specs.Pair.{accepts as acceptsPair};
 

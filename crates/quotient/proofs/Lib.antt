@@ -1,6 +1,8 @@
 -- The theory of residues modulo a monic polynomial.
 pub mod Action
 pub mod Words
+pub mod Painted
+pub mod Padded
 pub mod Sums
 pub mod TimesX
 pub mod Ring

@@ -10,9 +10,9 @@ use lib.ListN.{length, take}
 use Rattle.modular.specs.Refusal.{written}
 use Rattle.quotient.specs.Residue.{Words, none, more, product, power, substitute}
 use Rattle.quotient.proofs.Words.{words-length, product-words, power-words, substitute-words}
-use Rattle.residue.specs.Array.{padded, Holds}
+use Rattle.quotient.specs.Array.{padded, Holds}
 use Rattle.residue.specs.Calls.{residueNumber}
-use Rattle.residue.proofs.Padded.{holds-is, front-is}
+use Rattle.quotient.proofs.Padded.{holds-is, front-is}
 use Rattle.residue.proofs.Accepted.{Accepted, accepted}
 
 -- the list lent for the output, by the number of the call

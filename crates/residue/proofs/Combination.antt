@@ -17,10 +17,10 @@ use Rattle.quotient.proofs.Evaluation.{evaluate, evaluate-nil, evaluate-cons, r
 use Rattle.quotient.proofs.Ring.{residueRing, addResidue, zeroResidue, constantResidue, repeated-scale, power-is}
 use Rattle.quotient.proofs.Substitution.{substitute-is}
 use Rattle.quotient.proofs.Words.{words-length, constant-zero, power-words, substitute-words, scale-words}
-use Rattle.residue.specs.Array.{padded, Holds}
+use Rattle.quotient.specs.Array.{padded, Holds}
 use Rattle.residue.specs.Table.{Powers, Table, column, combination}
-use Rattle.residue.proofs.Padded.{words-at, array-fits}
-use Rattle.residue.proofs.Painted.{table}
+use Rattle.quotient.proofs.Padded.{words-at, array-fits}
+use Rattle.quotient.proofs.Painted.{table}
 use Rattle.residue.proofs.Rows.{table-range}
 
 unfoldable pub inner : List ℕ → (ℕ → ℕ) → ℕ

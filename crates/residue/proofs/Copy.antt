@@ -9,9 +9,9 @@ use lib.ListN.{length, getD, take, set, replicate}
 use lib.Seq.{take-length, drop-length}
 use mir.Syntax.{w16}
 use mir.Val.{Fits}
-use Rattle.residue.specs.Array.{padded, Holds}
-use Rattle.residue.proofs.Painted.{painted, table, painted-is, painted-next, painted-length}
-use Rattle.residue.proofs.Padded.{array-fits, painted-array, padded-zeros, take-zeros, holds-word}
+use Rattle.quotient.specs.Array.{padded, Holds}
+use Rattle.quotient.proofs.Painted.{painted, table, painted-is, painted-next, painted-length}
+use Rattle.quotient.proofs.Padded.{array-fits, painted-array, padded-zeros, take-zeros, holds-word}
 
 unfoldable pub entry : List ℕ → ℕ → ℕ
 entry xs k = getD xs k 0

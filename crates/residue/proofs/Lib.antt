@@ -1,6 +1,4 @@
 -- Laws on which the proofs of the functions rest.
-pub mod Painted
-pub mod Padded
 pub mod Horner
 pub mod Step
 pub mod Reduce

@@ -13,8 +13,8 @@ use Rattle.quotient.specs.Residue.{Words, none, more, sum, scale, shift, top, t
 use Rattle.quotient.proofs.Sums.{sum-zero, scale-modulus}
 use Rattle.quotient.proofs.Words.{words-length, zeros-words, product-words, power-words}
 use Rattle.quotient.proofs.Ring.{residueRing, mulResidue, power-is}
-use Rattle.residue.specs.Array.{padded, Holds}
-use Rattle.residue.proofs.Padded.{padded-zeros, holds-word, holds-is, front-is}
+use Rattle.quotient.specs.Array.{padded, Holds}
+use Rattle.quotient.proofs.Padded.{padded-zeros, holds-word, holds-is, front-is}
 
 pub constant-array : (n c : ℕ) → 1 ≤ n → n ≤ 16 → set (replicate 16 0) 0 c ≡ padded (constant n c)
 unfolding constant padded

@@ -11,9 +11,9 @@ use lib.Seq.{paste, length-paste, length-paste-head, length-take-le, getD-take, 
 use Rattle.quotient.specs.Residue.{Words, constant, product, power}
 use Rattle.quotient.proofs.Ring.{residueRing, mulResidue, oneResidue, constantResidue}
 use Rattle.quotient.proofs.Words.{words-length, power-words}
-use Rattle.residue.specs.Array.{padded, Holds}
+use Rattle.quotient.specs.Array.{padded, Holds}
 use Rattle.residue.specs.Table.{Powers}
-use Rattle.residue.proofs.Padded.{array-length, padded-length, holds-is, front-is}
+use Rattle.quotient.proofs.Padded.{array-length, padded-length, holds-is, front-is}
 
 -- the rows before the one that is written, and that one
 

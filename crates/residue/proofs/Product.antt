@@ -8,9 +8,9 @@ use lib.ListN.{getD, take, drop, replicate, drop-of-length-le}
 use Rattle.algebra.specs.Lists.{All}
 use Rattle.quotient.specs.Residue.{constant, product}
 use Rattle.quotient.proofs.Words.{words-length, constant-zero}
-use Rattle.residue.specs.Array.{padded, Holds}
+use Rattle.quotient.specs.Array.{padded, Holds}
 use Rattle.residue.specs.Delayed.{reduced, Delayed}
-use Rattle.residue.proofs.Padded.{padded-zeros, take-zeros}
+use Rattle.quotient.proofs.Padded.{padded-zeros, take-zeros}
 use Rattle.residue.proofs.Step.{delayed-word}
 
 reduced-zeros : (p n : ℕ) → reduced p (replicate n 0) ≡ replicate n 0

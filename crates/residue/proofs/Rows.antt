@@ -11,10 +11,10 @@ use lib.Seq.{paste, paste-suc, getD-drop, length-take-le, drop-at}
 use mir.Syntax.{w64}
 use mir.Val.{Fits}
 use Rattle.algebra.specs.Lists.{range}
-use Rattle.residue.specs.Array.{padded, Holds}
+use Rattle.quotient.specs.Array.{padded, Holds}
 use Rattle.residue.specs.Table.{Table, column, combination}
-use Rattle.residue.proofs.Padded.{holds-word, padded-zeros, take-zeros, painted-array}
-use Rattle.residue.proofs.Painted.{painted, table, painted-next}
+use Rattle.quotient.proofs.Padded.{holds-word, padded-zeros, take-zeros, painted-array}
+use Rattle.quotient.proofs.Painted.{painted, table, painted-next}
 
 zeros-rest : (n : ℕ) → n ≤ 16 → drop n (replicate {A = ℕ} 16 0) ≡ replicate (16 - n) 0
 unfolding padded

@@ -12,10 +12,10 @@ use mir.Syntax.{w64}
 use mir.Val.{Fits}
 use Rattle.algebra.specs.Lists.{All}
 use Rattle.quotient.specs.Residue.{sum, scale, timesX, product}
-use Rattle.residue.specs.Array.{padded, Holds}
+use Rattle.quotient.specs.Array.{padded, Holds}
 use Rattle.residue.specs.Delayed.{reduced, Delayed}
-use Rattle.residue.proofs.Painted.{painted, table, table-length, painted-next, painted-above}
-use Rattle.residue.proofs.Padded.{array-fits, painted-array, take-padded, holds-word}
+use Rattle.quotient.proofs.Painted.{painted, table, table-length, painted-next, painted-above}
+use Rattle.quotient.proofs.Padded.{array-fits, painted-array, take-padded, holds-word}
 use Rattle.residue.proofs.Horner.{term, step-mod, product-at}
 
 all-table : (P : ℕ → Type 0) (f : ℕ → ℕ) (n : ℕ) → ((k : ℕ) → k < n → P (f k)) → All P (table f n)

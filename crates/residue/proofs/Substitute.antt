@@ -10,8 +10,8 @@ use mir.Syntax.{w64}
 use mir.Val.{Fits}
 use Rattle.quotient.specs.Residue.{Words, none, more, sum, constant, product, substitute}
 use Rattle.quotient.proofs.Words.{words-length, constant-zero, product-words, substitute-words}
-use Rattle.residue.specs.Array.{padded, Holds}
-use Rattle.residue.proofs.Padded.{padded-zeros, holds-word, holds-is, front-is}
+use Rattle.quotient.specs.Array.{padded, Holds}
+use Rattle.quotient.proofs.Padded.{padded-zeros, holds-word, holds-is, front-is}
 
 zeros-sum : {p n : ℕ} {u : List ℕ} → Words p n u → sum p (replicate n 0) u ≡ u
 unfolding sum

@@ -12,9 +12,9 @@ use mir.Val.{Fits}
 use Rattle.quotient.specs.Residue.{Words, sum, scale, shift, top, timesX, product, power, residueOfX}
 use Rattle.quotient.proofs.Words.{residueOfX-words}
 use Rattle.quotient.proofs.Ring.{residueModule, mulResidue, xResidue, mul-x}
-use Rattle.residue.specs.Array.{padded, Holds}
-use Rattle.residue.proofs.Painted.{painted, table, painted-next}
-use Rattle.residue.proofs.Padded.{array-fits, painted-array, padded-zeros, take-zeros, holds-word}
+use Rattle.quotient.specs.Array.{padded, Holds}
+use Rattle.quotient.proofs.Painted.{painted, table, painted-next}
+use Rattle.quotient.proofs.Padded.{array-fits, painted-array, padded-zeros, take-zeros, holds-word}
 use Rattle.residue.proofs.Power.{power-holds, square-holds, power-even-array, power-odd-array}
 
 unfoldable pub raised : ℕ → ℕ → ℕ → List ℕ → List ℕ → ℕ → ℕ

@@ -6,7 +6,7 @@ use mathlib.Core.List.{List, [], _∷_}
 use Prim.Native.Nat.{ℕ, _*_, _%_, _^_, _≤_}
 use lib.ListN.{take}
 use Rattle.algebra.specs.Lists.{All}
-use Rattle.residue.specs.Array.{padded}
+use Rattle.quotient.specs.Array.{padded}
 
 unfoldable pub reduced : ℕ → List ℕ → List ℕ
 reduced p [] = []

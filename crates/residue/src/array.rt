@@ -2,7 +2,7 @@
 ghost use mathlib.Core.Path.{_≡_};
 ghost use Prim.Native.Nat.{_≤_, _^_};
 ghost use lib.ListN.{length, take};
-ghost use Rattle.residue.specs.Array.{padded, Holds};
+ghost use Rattle.quotient.specs.Array.{padded, Holds};
 
 // The words of xs, and zeros after them.
 pub fn load(xs: &[u16]) -> [u64; 16]

@@ -6,7 +6,7 @@ ghost use mathlib.Core.Path.{_≡_};
 ghost use Prim.Native.Nat.{_+_, _-_, _*_, _/_, _%_, _^_, _≤_, _<_};
 ghost use lib.ListN.{getD, take, drop};
 ghost use Rattle.quotient.specs.Residue.{constant, product as productOf, power as powerOf, residueOfX, timesX, substitute as substituteOf};
-ghost use Rattle.residue.specs.Array.{padded, Holds};
+ghost use Rattle.quotient.specs.Array.{padded, Holds};
 ghost use Rattle.residue.specs.Delayed.{reduced, Delayed};
 
 // One step of Horner's rule: w becomes X·w + u[i]·v. Its top word goes out as q·t, where q is the opposite of the top word modulo p; no other

@@ -4,7 +4,7 @@ ghost use mathlib.Core.Path.{_≡_};
 ghost use lib.Seq.{paste};
 ghost use Prim.Native.Nat.{_+_, _*_, _%_, _^_, _≤_, _<_};
 ghost use lib.ListN.{length, take, drop};
-ghost use Rattle.residue.specs.Array.{padded, Holds};
+ghost use Rattle.quotient.specs.Array.{padded, Holds};
 ghost use Rattle.residue.specs.Table.{Powers, Table, column, combination};
 use crate::ring::product;
 

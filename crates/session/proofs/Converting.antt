@@ -15,11 +15,11 @@ use borrow.Rule.Slice.PartMut.{putMid, postOf, same-len-mid}
 use Rattle.algebra.specs.Lists.{range}
 use Rattle.quotient.specs.Residue.{Words, none, more, substitute}
 use Rattle.quotient.proofs.Words.{words-length, substitute-words}
-use Rattle.residue.specs.Array.{padded, Holds}
+use Rattle.quotient.specs.Array.{padded, Holds}
 use Rattle.residue.specs.Table.{Powers, Table, column, combination}
 use Rattle.residue.proofs.Answers.{words-up}
 use Rattle.residue.proofs.Combination.{table-of-powers, combination-is}
-use Rattle.residue.proofs.Padded.{holds-is, padded-length, take-padded}
+use Rattle.quotient.proofs.Padded.{holds-is, padded-length, take-padded}
 use Rattle.session.specs.Session.{converted, tableNumber}
 use Rattle.session.proofs.Groups.{take-words, drop-words}
 use Rattle.session.proofs.Table.{Convertible, table-given}

@@ -6,8 +6,8 @@ use Prim.Native.Nat.{ℕ, _/_, _≤_}
 use native.Mathlib.Omega.{arith}
 use lib.ListN.{length, take}
 use Rattle.quotient.proofs.Words.{words-length}
-use Rattle.residue.specs.Array.{padded, Holds}
-use Rattle.residue.proofs.Padded.{holds-is, take-padded}
+use Rattle.quotient.specs.Array.{padded, Holds}
+use Rattle.quotient.proofs.Padded.{holds-is, take-padded}
 use Rattle.session.specs.Kind.{stateOf}
 use Rattle.session.specs.Session.{View, empty, loaded, paired, whole, view, converted, tableNumber, convertNumber, imageForward, imageBack, convert, forwardOutput, backOutput}
 use Rattle.session.specs.declared.Session.{Session}

@@ -23,8 +23,8 @@ use Rattle.quotient.specs.DivisorTest.{hasDivisor}
 use Rattle.quotient.specs.Residue.{Words}
 use Rattle.quotient.proofs.Refusal as Refusal
 use Rattle.quotient.proofs.Words.{words-length, zeros-words}
-use Rattle.residue.specs.Array.{padded}
-use Rattle.residue.proofs.Padded.{take-padded}
+use Rattle.quotient.specs.Array.{padded}
+use Rattle.quotient.proofs.Padded.{take-padded}
 use Rattle.session.specs.Session.{View, empty, loaded, paired, whole, viewAs, view, newSession, loadedSession, pairedSession, answer, loadFrom, load, proposeFrom, propose, findFrom, find, convert, clear}
 use Rattle.session.specs.Theorem.{Call, callLoad, callPropose, callFind, callForward, callBack, callClear, next, run, Reached, is-new, is-loaded, is-paired}
 use Rattle.session.specs.declared.Session.{Session}

@@ -19,7 +19,7 @@ use Rattle.modular.specs.Refusal.{refuse, badPrime, badDegree, badLength, badWo
 use Rattle.pair.specs.Pair.{accepts}
 use Rattle.quotient.specs.DivisorTest.{hasDivisor}
 use Rattle.quotient.specs.Residue.{substitute}
-use Rattle.residue.specs.Array.{padded}
+use Rattle.quotient.specs.Array.{padded}
 use Rattle.session.specs.declared.Session.{Session}
 use Rattle.session.specs.declared.State.{State}
 use Rattle.session.specs.declared.State.the-variants.{Empty, Loaded, Paired}

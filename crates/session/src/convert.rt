@@ -14,7 +14,7 @@ ghost use mathlib.Core.Path.{_≡_};
 ghost use Prim.Native.Nat.{_/_, _^_, _≤_};
 ghost use lib.ListN.{length, take};
 ghost use Rattle.quotient.specs.Residue.{Words};
-ghost use Rattle.residue.specs.Array.{padded, Holds};
+ghost use Rattle.quotient.specs.Array.{padded, Holds};
 ghost use Rattle.residue.specs.Table.{Table, combination};
 ghost use Rattle.session.specs.Session.{view, whole, converted, tableNumber, convertNumber, convert as convertOf, forwardOutput, backOutput};
 

@@ -4,7 +4,7 @@ use crate::State;
 ghost use mathlib.Core.Path.{_≡_};
 ghost use Prim.Native.Nat.{_≤_};
 ghost use lib.ListN.{length, take};
-ghost use Rattle.residue.specs.Array.{padded};
+ghost use Rattle.quotient.specs.Array.{padded};
 ghost use Rattle.session.specs.Session.{loadedSession, pairedSession};
 
 // The words of xs, and zeros after them.

@@ -2,7 +2,7 @@
 use borrow.Author.Needs.{needs}
 use mathlib.Core.Path.{_≡_}
 use Prim.Native.Nat.{_-_, _≤_}
-use Rattle.residue.proofs.Painted.{painted, painted-none}
+use Rattle.quotient.proofs.Painted.{painted, painted-none}
 use Rattle.finder.proofs.VectorScan.{scaledWord, word-small, scale-turn, scale-done}
 use Rattle.finder.proofs.vector.scale.Statement.{statement}
 use Rattle.finder.proofs.vector.scale.Tie as tie

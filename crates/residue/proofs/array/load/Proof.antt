@@ -4,7 +4,7 @@ use mathlib.Core.Path.{_≡_}
 use Prim.Native.Nat.{_-_, _≤_}
 use native.Mathlib.Omega.{arith}
 use lib.ListN.{length}
-use Rattle.residue.proofs.Painted.{painted, painted-none}
+use Rattle.quotient.proofs.Painted.{painted, painted-none}
 use Rattle.residue.proofs.Copy.{entry, copy-turn, load-done}
 use Rattle.residue.proofs.array.load.Statement.{statement}
 use Rattle.residue.proofs.array.load.Tie as tie

@@ -3,7 +3,7 @@ use borrow.Author.Needs.{needs}
 use mathlib.Core.Path.{_≡_, refl}
 use Prim.Native.Nat.{_-_, _≤_}
 use lib.ListN.{length}
-use Rattle.residue.proofs.Painted.{painted, painted-none}
+use Rattle.quotient.proofs.Painted.{painted, painted-none}
 use Rattle.residue.proofs.Copy.{entry, copy-turn, store-done, store-fits}
 use Rattle.residue.proofs.array.store.Statement.{statement}
 use Rattle.residue.proofs.array.store.Tie as tie

@@ -4,7 +4,7 @@ use mathlib.Core.Path.{_≡_, refl}
 use mathlib.Core.List.{_∷_}
 use Prim.Native.Nat.{_-_, _≤_}
 use lib.ListN.{getD, replicate}
-use Rattle.residue.proofs.Painted.{painted, painted-none}
+use Rattle.quotient.proofs.Painted.{painted, painted-none}
 use Rattle.residue.proofs.Step.{word-short}
 use Rattle.residue.proofs.TimesX.{raised, top-fits, raised-fits, raised-turn, raised-carry, raised-done}
 use Rattle.residue.proofs.ring.times_x.Statement.{statement}

@@ -2,7 +2,7 @@
 use borrow.Author.Needs.{needs}
 use mathlib.Core.Path.{_≡_}
 use Prim.Native.Nat.{_-_, _≤_}
-use Rattle.residue.proofs.Painted.{painted, painted-none}
+use Rattle.quotient.proofs.Painted.{painted, painted-none}
 use Rattle.residue.proofs.Rows.{combinationWord, combine-turn, combine-done}
 use Rattle.residue.proofs.table.combine.Statement.{statement}
 use Rattle.residue.proofs.table.combine.Tie as tie

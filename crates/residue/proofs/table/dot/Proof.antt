@@ -3,7 +3,7 @@ use borrow.Author.Needs.{needs}
 use mathlib.Core.Path.{_≡_}
 use Prim.Native.Nat.{_-_, _*_, _^_, _≤_}
 use Rattle.residue.specs.Table.{column}
-use Rattle.residue.proofs.Padded.{holds-positive}
+use Rattle.quotient.proofs.Padded.{holds-positive}
 use Rattle.residue.proofs.Rows.{entry-fits, sum-fits, sum-small, column-none, column-next, column-done}
 use Rattle.residue.proofs.table.dot.Statement.{statement}
 use Rattle.residue.proofs.table.dot.Tie as tie

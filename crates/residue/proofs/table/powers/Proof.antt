@@ -4,9 +4,9 @@ use mathlib.Core.Path.{_≡_}
 use Prim.Native.Nat.{_-_, _≤_}
 use lib.ListN.{take}
 use Rattle.quotient.specs.Residue.{power}
-use Rattle.residue.specs.Array.{padded}
+use Rattle.quotient.specs.Array.{padded}
 use Rattle.residue.specs.Table.{Powers}
-use Rattle.residue.proofs.Padded.{array-length}
+use Rattle.quotient.proofs.Padded.{array-length}
 use Rattle.residue.proofs.Power.{power-holds}
 use Rattle.residue.proofs.Powers.{first-size, powers-alone, row-first, powers-two, row-size, row-turn, powers-turn, powers-done}
 use Rattle.residue.proofs.table.powers.Statement.{statement}

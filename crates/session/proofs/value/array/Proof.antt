@@ -3,7 +3,7 @@ use borrow.Author.Needs.{needs}
 use mathlib.Core.Path.{_≡_}
 use Prim.Native.Nat.{_-_, _≤_}
 use lib.ListN.{length}
-use Rattle.residue.proofs.Painted.{painted, painted-none}
+use Rattle.quotient.proofs.Painted.{painted, painted-none}
 use Rattle.residue.proofs.Copy.{entry, copy-turn, load-done}
 use Rattle.session.proofs.value.array.Statement.{statement}
 use Rattle.session.proofs.value.array.Tie as tie

@@ -6,10 +6,10 @@ use native.Mathlib.Nat as Nat
 use native.Mathlib.Omega.{arith}
 use lib.ListN.{length, getD, take, drop, replicate, length-append, length-take, length-replicate, replicate-append-replicate}
 use lib.Seq.{length-take-le, take-at, drop-at, getD-take}
 use Rattle.quotient.specs.Residue.{Words, none, more}
 use Rattle.quotient.proofs.Words.{words-length}
-use Rattle.residue.specs.Array.{padded, Holds}
-use Rattle.residue.proofs.Painted.{painted, table, painted-is, table-length}
+use Rattle.quotient.specs.Array.{padded, Holds}
+use Rattle.quotient.proofs.Painted.{painted, table, painted-is, table-length}
 
 pub padded-length : (u : List ℕ) → length u ≤ 16 → length (padded u) ≡ 16
 unfolding padded
