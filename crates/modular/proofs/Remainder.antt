@@ -1,8 +1,9 @@
 -- What the functions on words return is the remainder that they promise: it is below p and differs from the exact sum, difference or
--- product by a multiple of p. The power goes by a^k = (a²)^(k / 2)·a^(k % 2).
-use mathlib.Core.Path.{_≡_, sym, ap, _∙_}
+-- product by a multiple of p. The power goes by b^e = (b²)^(e / 2)·b^(e % 2).
+--   PowerLeft p a k r b e   r·b^e = a^k modulo p: the power that is left to work out is b^e
+use mathlib.Core.Path.{_≡_, sym, ap, ap₂, _∙_}
 use Prim.Native.Nat.{ℕ, zero, suc, _+_, _-_, _*_, _/_, _%_, _^_, _≤_, _<_}
-use native.Mathlib.Nat.{mod-eq-of-lt, add-mul-mod-self-right, lt-of-le-of-lt, mul-le-mul, pow-zero, pow-suc}
+use native.Mathlib.Nat.{mod-eq-of-lt, mod-lt, add-mul-mod-self-right, lt-of-le-of-lt, mul-le-mul, mul-assoc, mul-comm, mul-one, one-mul, pow-zero, pow-suc}
 use native.Mathlib.Omega.{arith}
 use lib.Dec.{lit<}
 use lib.Pow.{pow-add}
@@ -32,9 +33,6 @@ pow-mod a m zero = simp pow-zero
 pow-mod a m (suc k) =
     simp pow-suc (mul-mod-mod ((a % m) ^ k) a m ∙ sym (mod-mul-mod ((a % m) ^ k) m a) ∙ ap (λ x. (x * a) % m) (pow-mod a m k) ∙ mod-mul-mod (a ^ k) m a)
 
-pub power-zero : (p a k : ℕ) → k ≡ 0 → 1 % p ≡ (a ^ k) % p
-power-zero p a k e = ap (λ x. x % p) (sym (ap (λ x. a ^ x) e ∙ pow-zero a))
-
 square-power : (a h : ℕ) → (a * a) ^ h ≡ a ^ (h + h)
 square-power a h = twice h ∙ sym (pow-add a h h)
   where
@@ -42,16 +40,47 @@ square-power a h = twice h ∙ sym (pow-add a h h)
     twice zero = simp pow-zero
     twice (suc k) = simp pow-suc (ap (λ x. x * (a * a)) (twice k) ∙ omega arith)
 
--- (a² mod p)^(k / 2) for even k, where m is a² mod p
-pub power-even : (p a k m r : ℕ) → m ≡ (a * a) % p → r ≡ (m ^ (k / 2)) % p → k % 2 ≡ 0 → r ≡ (a ^ k) % p
-power-even p a k m r em er even =
-    let double : k / 2 + k / 2 ≡ k = omega arith in
-    er ∙ ap (λ x. (x ^ (k / 2)) % p) em ∙ pow-mod (a * a) p (k / 2) ∙ ap (λ x. x % p) (square-power a (k / 2)) ∙ ap (λ x. (a ^ x) % p) double
+-- the turns of the power
 
--- one more factor a for odd k
-pub power-odd : (p a k m e r : ℕ) → m ≡ (a * a) % p → e ≡ (m ^ (k / 2)) % p → r ≡ (e * a) % p → (k % 2 ≡ 0 → ⊥) → r ≡ (a ^ k) % p
-power-odd p a k m e r em ee er odd =
-    let double : suc (k / 2 + k / 2) ≡ k = omega arith in
-    let even : e ≡ (a ^ (k / 2 + k / 2)) % p =
-    ee ∙ ap (λ x. (x ^ (k / 2)) % p) em ∙ pow-mod (a * a) p (k / 2) ∙ ap (λ x. x % p) (square-power a (k / 2)) in
-    er ∙ ap (λ x. (x * a) % p) even ∙ mod-mul-mod (a ^ (k / 2 + k / 2)) p a ∙ ap (λ x. x % p) (sym (pow-suc a (k / 2 + k / 2))) ∙ ap (λ x. (a ^ x) % p) double
+pub record PowerLeft (p a k r b e : ℕ) : Type 0 where
+  pub value : r * b ^ e % p ≡ a ^ k % p
+  pub below : r < p
+  pub small : b ≤ 1048576
+
+pub power-start : (p a k : ℕ) → 0 < p → a ≤ 1048576 → PowerLeft p a k (1 % p) a k
+power-start p a k h small = record { value = mod-mul-mod 1 p (a ^ k) ∙ ap (λ x. x % p) (one-mul (a ^ k)); below = mod-lt 1 h; small = small }
+
+module _ (p a k r b e : ℕ) (h : PowerLeft p a k r b e) (few : p ≤ 1048576) where
+  -- r·(b²)^(e / 2), where b² is reduced
+  halved : (c : ℕ) → c ≡ (b * b) % p → (x : ℕ) → x * c ^ (e / 2) % p ≡ x * b ^ (e / 2 + e / 2) % p
+  halved c ec x =
+      sym (mul-mod-mod x (c ^ (e / 2)) p) ∙ ap (λ y. (x * y) % p) (ap (λ y. y ^ (e / 2) % p) ec ∙ pow-mod (b * b) p (e / 2) ∙ ap (λ y. y % p) (square-power b (e / 2)))
+      ∙ mul-mod-mod x (b ^ (e / 2 + e / 2)) p
+
+  pub power-even : (c s : ℕ) → (e % 2 ≡ 1 → ⊥) → s ≡ r → c ≡ (b * b) % p → c < p → PowerLeft p a k s c (e / 2)
+  power-even c s even es ec lc =
+      let double : e / 2 + e / 2 ≡ e = omega arith in
+      record {
+        value = halved c ec s ∙ ap₂ (λ x y. x * b ^ y % p) es double ∙ h .value;
+        below = omega (arith, h .below);
+        small = omega arith;
+      }
+
+  pub power-odd : (c s x : ℕ) → e % 2 ≡ 1 → x ≡ (r * b) % p → x < p → s ≡ x → c ≡ (b * b) % p → c < p → PowerLeft p a k s c (e / 2)
+  power-odd c s x odd ex lx es ec lc =
+      let double : suc (e / 2 + e / 2) ≡ e = omega arith in
+      let q : ℕ = b ^ (e / 2 + e / 2) in
+      let regroup : r * b * q ≡ r * (q * b) = mul-assoc r b q ∙ ap (λ x. r * x) (mul-comm b q) in
+      record {
+        value =
+            halved c ec s ∙ ap (λ y. y * q % p) (es ∙ ex) ∙ mod-mul-mod (r * b) p q
+            ∙ ap (λ x. x % p) (regroup ∙ ap (λ x. r * x) (sym (pow-suc b (e / 2 + e / 2)) ∙ ap (λ x. b ^ x) double)) ∙ h .value;
+        below = omega arith;
+        small = omega arith;
+      }
+
+  pub power-end : e ≤ 0 → r ≡ a ^ k % p
+  power-end l =
+      let none : e ≡ 0 = omega arith in
+      let left : r * b ^ e ≡ r = ap (λ x. r * b ^ x) none ∙ ap (λ x. r * x) (pow-zero b) ∙ mul-one r in
+      sym (mod-eq-of-lt (h .below)) ∙ ap (λ x. x % p) (sym left) ∙ h .value

@@ -30,16 +30,22 @@ pub fn mul(p: u64, a: u64, b: u64) -> u64
     a * b % p
 }
 
-// a^k modulo p, from (a²)^(k / 2).
+// a^k modulo p. In each turn r·b^e = a^k, and e is halved.
 pub fn power(p: u64, a: u64, k: u64) -> u64
     requires { ⌜ (0 < p) × (p ≤ 1048576) × (a ≤ 1048576) ⌝ }
     ensures { λ r. ⌜ (r ≡ (a ^ k) % p) × (r < p) ⌝ }
 {
-    if k == 0 {
-        return 1 % p;
+    let mut r = 1 % p;
+    let mut b = a;
+    let mut e = k;
+    while e > 0 {
+        if e % 2 == 1 {
+            r = mul(p, r, b);
+        }
+        b = mul(p, b, b);
+        e = e / 2;
     }
-    let even = power(p, mul(p, a, a), k / 2);
-    if k % 2 == 0 { even } else { mul(p, even, a) }
+    r
 }
 
 // Some t with a·t = 1 or a·t = −1 modulo p, by Euclid's algorithm on p and a. In each turn x·t + y·s = p, and a·t = y, a·s = −x modulo p
