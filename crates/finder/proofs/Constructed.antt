@@ -14,8 +14,8 @@ use Rattle.quotient.specs.Residue.{Words, scale, substitute}
 use Rattle.quotient.proofs.Words.{scale-words}
 use Rattle.quotient.specs.Array.{padded, Holds}
 use Rattle.quotient.proofs.Padded.{front-is, holds-is}
-use Rattle.finder.specs.Construct.{Choices, pairNumber, FoundPair}
-use Rattle.finder.specs.Finder.{zeta, alpha, powerConstant, ratio, express, findS, findR}
+use Rattle.finder.specs.Construct.{Choices, FoundPair}
+use Rattle.finder.specs.Finder.{zeta, alpha, powerConstant, ratio, express, findS, findR, pairNumber}
 use Rattle.finder.specs.Kernel.{Answer}
 use Rattle.finder.specs.Root.{Admissible, OrderModulo, Solvable}
 use Rattle.finder.specs.System.{Independent}

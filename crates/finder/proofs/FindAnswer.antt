@@ -11,7 +11,7 @@ use borrow.Author.Tests.{eq-eqb, eqb-true, not-false}
 use Rattle.algebra.specs.Lists.{Member, all}
 use Rattle.algebra.proofs.Search.{member-of-all}
 use Rattle.modular.specs.Prime.{isPrime}
-use Rattle.modular.specs.Refusal.{refuse, badPrime, badDegree, badLength, badWord, allBelow, written}
+use Rattle.modular.specs.Refusal.{refuse, refuseSent, badPrime, badDegree, badLength, badWord, allBelow, written}
 use Rattle.quotient.specs.DivisorTest.{hasDivisor}
 use Rattle.quotient.specs.Residue.{Words}
 use Rattle.quotient.proofs.Refusal as Refusal
@@ -20,8 +20,8 @@ use Rattle.quotient.specs.Array.{padded, Holds}
 use Rattle.residue.proofs.Answers.{output-new, output-old, words-up}
 use Rattle.quotient.proofs.Padded.{front-is, holds-is}
 use Rattle.pair.proofs.Refusals.{first-stays}
-use Rattle.finder.specs.Construct.{pairNumber, FoundPair}
-use Rattle.finder.specs.Finder.{findS, findR, findNumber, findOutputS, findOutputR}
+use Rattle.finder.specs.Construct.{FoundPair}
+use Rattle.finder.specs.Finder.{findS, findR, pairNumber, findNumber, findOutputS, findOutputR}
 use Rattle.finder.specs.System.{Independent}
 use Rattle.finder.specs.Theorem.{Models}
 use Rattle.finder.proofs.Express.{express-is}
@@ -30,7 +30,7 @@ use Rattle.finder.proofs.Values.{find-s-independent}
 -- a list that is named twice adds no refusal
 pub refusal-is : (p n number : ℕ) (t1 t2 s r : List ℕ) (prime degree size word : Bool) → number ≡ refuse 1 (not prime) (refuse 2 degree (refuse 3 size (refuse 4 word 0)))
     → prime ≡ isPrime p → degree ≡ badDegree n → size ≡ badLength n (t1 ∷ t2 ∷ s ∷ r ∷ []) → word ≡ badWord p (t1 ∷ t2 ∷ t2 ∷ [])
-    → number ≡ refuse 1 (badPrime p) (refuse 2 (badDegree n) (refuse 3 (badLength n (t1 ∷ t2 ∷ s ∷ r ∷ [])) (refuse 4 (badWord p (t1 ∷ t2 ∷ [])) 0)))
+    → number ≡ refuseSent p n (t1 ∷ t2 ∷ s ∷ r ∷ []) (t1 ∷ t2 ∷ []) 0
 unfolding badPrime badWord all
 refusal-is p n number t1 t2 s r prime degree size word e a b c d = rw (e, a, b, c, d, and-self-left (allBelow p t2) true)
 
@@ -102,7 +102,7 @@ module _ (p n : ℕ) (t1 t2 : List ℕ) (m : Models p n t1 t2) where
 -- the call
 
 module _ (p n number : ℕ) (t1 t2 s r : List ℕ)
-    (e : number ≡ refuse 1 (badPrime p) (refuse 2 (badDegree n) (refuse 3 (badLength n (t1 ∷ t2 ∷ s ∷ r ∷ [])) (refuse 4 (badWord p (t1 ∷ t2 ∷ [])) 0)))) where
+    (e : number ≡ refuseSent p n (t1 ∷ t2 ∷ s ∷ r ∷ []) (t1 ∷ t2 ∷ []) 0) where
   module _ (other : number ≡ 0 → ⊥) where
     pub find-refused : number ≡ findNumber p n t1 t2 s r
     unfolding findNumber

@@ -1,16 +1,13 @@
 -- The pair from α1, α2 and c, and the finder's answer on arrays.
 --   Choices p n t1 t2 c x y          neither modulus has a monic divisor of degree 1 to n − 1, and c, x and y are c, α1 and α2
---   pairNumber p n t1 t2             5 where n does not divide p − 1, 6 and 7 where T1 and T2 have such a divisor; 0 otherwise
 --   FoundPair p n t1 t2 number s r   this number; where it is 0, s and r are S and R
 use mathlib.Core.Path.{_≡_}
-use mathlib.Core.Bool.{false, not}
+use mathlib.Core.Bool.{false}
 use mathlib.Core.List.{List}
-use Prim.Native.Nat.{ℕ, _-_, _%_, _<_}
-use lib.Dec.{eqb}
-use Rattle.modular.specs.Refusal.{refuse}
+use Prim.Native.Nat.{ℕ, _<_}
 use Rattle.quotient.specs.DivisorTest.{hasDivisor}
 use Rattle.quotient.specs.Array.{padded}
-use Rattle.finder.specs.Finder.{zeta, alpha, powerConstant, ratio, findS, findR}
+use Rattle.finder.specs.Finder.{zeta, alpha, powerConstant, ratio, findS, findR, pairNumber}
 
 pub record Choices (p n : ℕ) (t1 t2 : List ℕ) (c : ℕ) (x y : List ℕ) : Type 0 where
   pub irreducible1 : hasDivisor p t1 ≡ false
@@ -19,9 +16,6 @@ pub record Choices (p n : ℕ) (t1 t2 : List ℕ) (c : ℕ) (x y : List ℕ) : T
   pub alpha2-is : y ≡ padded (alpha p t2 (zeta p n))
   pub ratio-is : c ≡ ratio p n (powerConstant p t1 (alpha p t1 (zeta p n))) (powerConstant p t2 (alpha p t2 (zeta p n)))
   pub ratio-small : c < p
-
-abbrev pub pairNumber : ℕ → ℕ → List ℕ → List ℕ → ℕ
-pairNumber p n t1 t2 = refuse 5 (not (eqb ((p - 1) % n) 0)) (refuse 6 (hasDivisor p t1) (refuse 7 (hasDivisor p t2) 0))
 
 pub record FoundPair (p n : ℕ) (t1 t2 : List ℕ) (number : ℕ) (s r : List ℕ) : Type 0 where
   pub number-is : number ≡ pairNumber p n t1 t2

@@ -6,14 +6,15 @@
 --   express p t a       the polynomial P of degree below n with P(a) = X modulo T
 --   findS p n t1 t2     S = P1(c·α2) mod T2, with P1(α1) = X mod T1
 --   findR p n t1 t2     the one polynomial R of degree below n with R(S) = X mod T2
---   findNumber …        the finder's answer: 1 to 7, or 0 where it returns the pair
+--   pairNumber p n t1 t2   5 where n does not divide p − 1, 6 and 7 where T1 and T2 have a monic divisor of degree 1 to n − 1; 0 otherwise
+--   findNumber …        the finder's answer: 1 to 4, then these, or 0 where it returns the pair
 use mathlib.Core.Bool.{Bool, true, false, _&&_, not}
 use mathlib.Core.List.{List, [], _∷_}
 use Prim.Native.Nat.{ℕ, _-_, _*_, _%_, _^_}
 use lib.Dec.{eqb}
 use lib.ListN.{length, getD}
 use Rattle.algebra.specs.Lists.{all, equal, range, first}
-use Rattle.modular.specs.Refusal.{refuse, badPrime, badDegree, badLength, badWord, written}
+use Rattle.modular.specs.Refusal.{refuse, refuseSent, written}
 use Rattle.quotient.specs.DivisorTest.{hasDivisor}
 use Rattle.quotient.specs.Residue.{residues, scale, constant, power, residueOfX, substitute}
 
@@ -52,13 +53,11 @@ findS p n t1 t2 =
 unfoldable pub findR : ℕ → ℕ → List ℕ → List ℕ → List ℕ
 findR p n t1 t2 = express p t2 (findS p n t1 t2)
 
+abbrev pub pairNumber : ℕ → ℕ → List ℕ → List ℕ → ℕ
+pairNumber p n t1 t2 = refuse 5 (not (eqb ((p - 1) % n) 0)) (refuse 6 (hasDivisor p t1) (refuse 7 (hasDivisor p t2) 0))
+
 unfoldable pub findNumber : ℕ → ℕ → List ℕ → List ℕ → List ℕ → List ℕ → ℕ
-findNumber p n t1 t2 lentS lentR =
-    refuse 1 (badPrime p)
-    (refuse 2 (badDegree n)
-    (refuse 3 (badLength n (t1 ∷ t2 ∷ lentS ∷ lentR ∷ []))
-    (refuse 4 (badWord p (t1 ∷ t2 ∷ []))
-    (refuse 5 (not (eqb ((p - 1) % n) 0)) (refuse 6 (hasDivisor p t1) (refuse 7 (hasDivisor p t2) 0))))))
+findNumber p n t1 t2 lentS lentR = refuseSent p n (t1 ∷ t2 ∷ lentS ∷ lentR ∷ []) (t1 ∷ t2 ∷ []) (pairNumber p n t1 t2)
 
 unfoldable pub findOutputS : ℕ → ℕ → List ℕ → List ℕ → List ℕ → List ℕ → List ℕ
 findOutputS p n t1 t2 lentS lentR = written (findNumber p n t1 t2 lentS lentR) (findS p n t1 t2) lentS

@@ -2,9 +2,9 @@
 ghost use mathlib.Core.List.{[], _∷_};
 ghost use mathlib.Core.Path.{_≡_};
 ghost use lib.ListN.{length};
-ghost use Rattle.modular.specs.Refusal.{refuse, badPrime, badDegree, badLength, badWord, written};
-ghost use Rattle.finder.specs.Construct.{pairNumber, FoundPair};
-ghost use Rattle.finder.specs.Finder.{findS, findR, findNumber, findOutputS, findOutputR};
+ghost use Rattle.modular.specs.Refusal.{refuseSent, written};
+ghost use Rattle.finder.specs.Construct.{FoundPair};
+ghost use Rattle.finder.specs.Finder.{findS, findR, pairNumber, findNumber, findOutputS, findOutputR};
 ghost use Rattle.finder.specs.Theorem.{Models};
 use crate::construct::Found;
 use crate::construct::find_pair;
@@ -18,9 +18,8 @@ use residue::refusal::first;
 
 // The number of the first refusal from 1 to 4 that applies, 0 where none does.
 fn refusal(p: u32, n: u32, t1: &[u16], t2: &[u16], s: &[u16], r: &[u16]) -> u32
-    ensures { λ number. ⌜ number ≡ refuse 1 (badPrime p) (refuse 2 (badDegree n)
-        (refuse 3 (badLength n (now (t1 .entry) ∷ now (t2 .entry) ∷ now (s .entry) ∷ now (r .entry) ∷ []))
-        (refuse 4 (badWord p (now (t1 .entry) ∷ now (t2 .entry) ∷ [])) 0))) ⌝ }
+    ensures { λ number. ⌜ number ≡ refuseSent p n (now (t1 .entry) ∷ now (t2 .entry) ∷ now (s .entry) ∷ now (r .entry) ∷ [])
+        (now (t1 .entry) ∷ now (t2 .entry) ∷ []) 0 ⌝ }
 {
     first(
         !is_prime(p),

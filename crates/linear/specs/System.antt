@@ -6,9 +6,9 @@
 --   Outcome p n m b r v  the answer to a system: regular (r true) or singular (r false), with the vector v
 use mathlib.Core.Path.{_≡_}
 use mathlib.Core.Bool.{Bool, true, false}
-use mathlib.Core.List.{List, [], _∷_, _++_}
-use Prim.Native.Nat.{ℕ, suc, _+_, _-_, _*_, _%_, _<_}
-use lib.ListN.{length, getD, take, replicate}
+use mathlib.Core.List.{List, [], _++_}
+use Prim.Native.Nat.{ℕ, _+_, _-_, _%_, _<_}
+use lib.ListN.{getD, take, replicate}
 use Rattle.quotient.specs.Array.{rowProduct}
 use Rattle.quotient.specs.Residue.{Words}
 

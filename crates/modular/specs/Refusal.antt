@@ -5,6 +5,7 @@
 --   badLength n xss      3: a list of coefficients, read or written, has the wrong length
 --   allBelow p xs        every word of xs is below p
 --   badWord p xss        4: a coefficient is p or more
+--   refuseSent p n xss yss rest   1 to 4 in their order, for a call with the lists xss, of which yss are read; then what comes after
 --   written k new old    what a lent list holds after a call with the number k: new where k is 0, else what it held
 use mathlib.Core.Bool.{Bool, true, false, _&&_, not}
 use mathlib.Core.List.{List}
@@ -32,6 +33,10 @@ allBelow p xs = all (λ a. ltb a p) xs
 
 unfoldable pub badWord : ℕ → List (List ℕ) → Bool
 badWord p xss = not (all (allBelow p) xss)
+
+abbrev pub refuseSent : ℕ → ℕ → List (List ℕ) → List (List ℕ) → ℕ → ℕ
+refuseSent p n xss yss rest =
+    refuse 1 (badPrime p) (refuse 2 (badDegree n) (refuse 3 (badLength n xss) (refuse 4 (badWord p yss) rest)))
 
 abbrev pub pick : Bool → List ℕ → List ℕ → List ℕ
 pick true new old = new

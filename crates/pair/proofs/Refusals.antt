@@ -7,7 +7,7 @@ use native.Mathlib.Omega.{arith}
 use lib.ListN.{length, take}
 use Rattle.algebra.specs.Lists.{All, all}
 use Rattle.modular.specs.Prime.{isPrime}
-use Rattle.modular.specs.Refusal.{refuse, badPrime, badDegree, badLength, badWord, allBelow}
+use Rattle.modular.specs.Refusal.{refuse, refuseSent, badPrime, badDegree, badLength, badWord, allBelow}
 use Rattle.quotient.specs.Residue.{Words}
 use Rattle.quotient.proofs.Refusal as Refusal
 use Rattle.quotient.proofs.Words.{words-length}
@@ -18,7 +18,7 @@ use Rattle.pair.specs.Theorem.{Given}
 
 -- the refusals 1 to 4 of some lists, and what comes after them
 abbrev pub refusals : ℕ → ℕ → List (List ℕ) → ℕ → ℕ
-refusals p n xss rest = refuse 1 (badPrime p) (refuse 2 (badDegree n) (refuse 3 (badLength n xss) (refuse 4 (badWord p xss) rest)))
+refusals p n xss rest = refuseSent p n xss xss rest
 
 -- what 1 to 4 leave
 

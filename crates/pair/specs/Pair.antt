@@ -10,7 +10,7 @@ use mathlib.Core.List.{List, [], _∷_}
 use Prim.Native.Nat.{ℕ}
 use lib.ListN.{length}
 use Rattle.algebra.specs.Lists.{equal}
-use Rattle.modular.specs.Refusal.{refuse, badPrime, badDegree, badLength, badWord}
+use Rattle.modular.specs.Refusal.{refuse, refuseSent}
 use Rattle.quotient.specs.Residue.{constant, residueOfX, substitute, modulusAt}
 
 unfoldable pub forward : ℕ → List ℕ → List ℕ → List ℕ → List ℕ
@@ -34,7 +34,4 @@ accepts p t1 t2 s r =
 
 unfoldable pub checkNumber : ℕ → ℕ → List ℕ → List ℕ → List ℕ → List ℕ → ℕ
 checkNumber p n t1 t2 s r =
-    refuse 1 (badPrime p)
-    (refuse 2 (badDegree n)
-    (refuse 3 (badLength n (t1 ∷ t2 ∷ s ∷ r ∷ []))
-    (refuse 4 (badWord p (t1 ∷ t2 ∷ s ∷ r ∷ [])) (refuse 8 (not (accepts p t1 t2 s r)) 0))))
+    refuseSent p n (t1 ∷ t2 ∷ s ∷ r ∷ []) (t1 ∷ t2 ∷ s ∷ r ∷ []) (refuse 8 (not (accepts p t1 t2 s r)) 0)

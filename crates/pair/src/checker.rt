@@ -8,7 +8,7 @@ use residue::refusal::bad_length;
 use residue::refusal::bad_word;
 ghost use mathlib.Core.Path.{_≡_};
 ghost use mathlib.Core.List.{[], _∷_};
-ghost use Rattle.modular.specs.Refusal.{refuse, badPrime, badDegree, badLength, badWord};
+ghost use Rattle.modular.specs.Refusal.{refuseSent, badWord};
 ghost use Rattle.pair.specs.Pair.{accepts as acceptsPair, checkNumber};
 ghost use Rattle.pair.specs.Theorem.{Given};
 
@@ -24,9 +24,8 @@ fn bad_words(p: u32, t1: &[u16], t2: &[u16], s: &[u16], r: &[u16]) -> bool
 
 // The number of the first refusal but 8 that applies, 0 where none does.
 fn refusal(p: u32, n: u32, t1: &[u16], t2: &[u16], s: &[u16], r: &[u16]) -> u32
-    ensures { λ number. ⌜ number ≡ refuse 1 (badPrime p) (refuse 2 (badDegree n)
-        (refuse 3 (badLength n (now (t1 .entry) ∷ now (t2 .entry) ∷ now (s .entry) ∷ now (r .entry) ∷ []))
-        (refuse 4 (badWord p (now (t1 .entry) ∷ now (t2 .entry) ∷ now (s .entry) ∷ now (r .entry) ∷ [])) 0))) ⌝ }
+    ensures { λ number. ⌜ number ≡ refuseSent p n (now (t1 .entry) ∷ now (t2 .entry) ∷ now (s .entry) ∷ now (r .entry) ∷ [])
+        (now (t1 .entry) ∷ now (t2 .entry) ∷ now (s .entry) ∷ now (r .entry) ∷ []) 0 ⌝ }
 {
     if !is_prime(p) {
         return 1;

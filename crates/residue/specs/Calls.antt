@@ -5,12 +5,11 @@
 --   powerNumber, powerOutput              u^k modulo T, likewise
 use mathlib.Core.List.{List, [], _∷_}
 use Prim.Native.Nat.{ℕ}
-use Rattle.modular.specs.Refusal.{refuse, badPrime, badDegree, badLength, badWord, written}
+use Rattle.modular.specs.Refusal.{refuseSent, written}
 use Rattle.quotient.specs.Residue.{product, power, substitute}
 
 unfoldable pub residueNumber : ℕ → ℕ → List (List ℕ) → List ℕ → ℕ
-residueNumber p n xss out =
-    refuse 1 (badPrime p) (refuse 2 (badDegree n) (refuse 3 (badLength n (out ∷ xss)) (refuse 4 (badWord p xss) 0)))
+residueNumber p n xss out = refuseSent p n (out ∷ xss) xss 0
 
 abbrev pub substituteNumber : ℕ → ℕ → List ℕ → List ℕ → List ℕ → List ℕ → ℕ
 substituteNumber p n t s u out = residueNumber p n (t ∷ s ∷ u ∷ []) out

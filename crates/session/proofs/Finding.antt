@@ -1,18 +1,16 @@
 -- Find, by the tests of the code: in a loaded session 1 to 4 do not apply, so that its number is the finder's; where that is 0 the two lists
 -- lent to the finder hold its pair.
 use mathlib.Core.Path.{_≡_, refl, sym, ap, ap₂, _∙_}
-use mathlib.Core.Bool.{true, not}
+use mathlib.Core.Bool.{true}
 use mathlib.Core.List.{List, [], _∷_, _++_}
-use Prim.Native.Nat.{ℕ, _-_, _%_, _≤_}
+use Prim.Native.Nat.{ℕ, _-_, _≤_}
 use native.Mathlib.Omega.{arith}
-use lib.Dec.{eqb}
 use lib.ListN.{length, take, length-append}
 use lib.Seq.{take-at}
-use Rattle.finder.specs.Finder.{findS, findR, findNumber, findOutputS, findOutputR}
+use Rattle.finder.specs.Finder.{findS, findR, pairNumber, findNumber, findOutputS, findOutputR}
 use Rattle.finder.specs.Theorem.{Models}
-use Rattle.modular.specs.Refusal.{refuse, written}
+use Rattle.modular.specs.Refusal.{written}
 use Rattle.pair.proofs.Theorem.{checker-theorem}
-use Rattle.quotient.specs.DivisorTest.{hasDivisor}
 use Rattle.quotient.proofs.Refusal.{prime-given, degree-given}
 use Rattle.quotient.proofs.Words.{words-length}
 use Rattle.session.specs.Kind.{stateOf}
@@ -28,7 +26,7 @@ use Rattle.session.proofs.Whole.{whole-given, whole-degree, front-lengt
 
 -- the finder's pair in two lists, where 5, 6 and 7 do not apply
 pub record Found (p n : ℕ) (t1 t2 s r : List ℕ) : Type 0 where
-  pub accepted : refuse 5 (not (eqb ((p - 1) % n) 0)) (refuse 6 (hasDivisor p t1) (refuse 7 (hasDivisor p t2) 0)) ≡ 0
+  pub accepted : pairNumber p n t1 t2 ≡ 0
   pub s-is : s ≡ findS p n t1 t2
   pub r-is : r ≡ findR p n t1 t2
   pub s-length : length s ≡ n
@@ -49,7 +47,7 @@ module _ (p n : ℕ) (t1 t2 : List ℕ) (l1 : length t1 ≡ 16) (l2 : length t2 
 
   -- the finder's number is that of the session's call
   number : ℕ
-  number = refuse 5 (not (eqb ((p - 1) % n) 0)) (refuse 6 (hasDivisor p (take n t1)) (refuse 7 (hasDivisor p (take n t2)) 0))
+  number = pairNumber p n (take n t1) (take n t2)
 
   number-is : (s r : List ℕ) → length s ≡ 16 → length r ≡ 16 → findNumber p n (take n t1) (take n t2) (take n s) (take n r) ≡ number
   unfolding findNumber number

@@ -6,7 +6,7 @@ use Prim.Native.Nat.{ℕ, _≤_}
 use native.Mathlib.Omega.{arith}
 use lib.ListN.{length}
 use Rattle.finder.specs.Theorem.{Models}
-use Rattle.modular.specs.Refusal.{refuse, badPrime, badDegree, badLength, badWord}
+use Rattle.modular.specs.Refusal.{refuse, refuseSent, badPrime, badDegree}
 use Rattle.quotient.proofs.Words.{words-length}
 use Rattle.quotient.proofs.Refusal.{refuse-none}
 use Rattle.session.specs.Kind.{stateOf}
@@ -38,8 +38,7 @@ module _ (x : Session) (p n : ℕ) (t1 t2 : List ℕ) where
   -- the number, by the state of what the session counts as
   module _ (state : State) (e : state ≡ stateOf (view x)) where
     pub load-empty : state ≡ Empty → (k : ℕ)
-        → k ≡ refuse 1 (badPrime p)
-        (refuse 2 (badDegree n) (refuse 3 (badLength n (t1 ∷ t2 ∷ [])) (refuse 4 (badWord p (t1 ∷ t2 ∷ [])) 0)))
+        → k ≡ refuseSent p n (t1 ∷ t2 ∷ []) (t1 ∷ t2 ∷ []) 0
         → k ≡ load x p n t1 t2 .number
     unfolding load loadFrom
     load-empty h k f = rw (empty-seen x state e h) (f ∙ sym (answer-number _ x (loadedSession p n t1 t2)))

@@ -5,21 +5,19 @@
 use mathlib.Core.Path.{_≡_, refl}
 use mathlib.Core.Bool.{not}
 use mathlib.Core.List.{List, [], _∷_}
-use Prim.Native.Nat.{ℕ, zero, suc, _-_, _%_}
+use Prim.Native.Nat.{ℕ, zero, suc, _-_}
 use native.Mathlib.Omega.{arith}
 use borrow.Author.Tests.{not-false}
-use lib.Dec.{eqb}
 use lib.ListN.{take, replicate}
 use Rattle.algebra.specs.Lists.{All}
-use Rattle.finder.specs.Finder.{findS, findR, findNumber, findOutputS, findOutputR}
+use Rattle.finder.specs.Finder.{findS, findR, pairNumber, findNumber, findOutputS, findOutputR}
 use Rattle.finder.specs.Theorem.{Models}
 use Rattle.finder.proofs.Theorem.{demand-3}
-use Rattle.modular.specs.Refusal.{refuse, badPrime, badDegree, badLength, badWord}
+use Rattle.modular.specs.Refusal.{refuse, refuseSent, badPrime, badDegree, badLength, badWord}
 use Rattle.pair.specs.Pair.{accepts, checkNumber}
 use Rattle.pair.specs.Theorem.{Given}
 use Rattle.pair.proofs.Accepts.{congruences-accepted}
 use Rattle.pair.proofs.Theorem.{checker-theorem}
-use Rattle.quotient.specs.DivisorTest.{hasDivisor}
 use Rattle.quotient.specs.Residue.{Words}
 use Rattle.quotient.proofs.Refusal as Refusal
 use Rattle.quotient.proofs.Words.{words-length, zeros-words}
@@ -72,8 +70,7 @@ answer-reached zero x y h f = f refl
 answer-reached (suc k) x y h f = h
 
 pub loaded-models : (p n : ℕ) (t1 t2 : List ℕ)
-    → refuse 1 (badPrime p)
-    (refuse 2 (badDegree n) (refuse 3 (badLength n (t1 ∷ t2 ∷ [])) (refuse 4 (badWord p (t1 ∷ t2 ∷ [])) 0))) ≡ 0
+    → refuseSent p n (t1 ∷ t2 ∷ []) (t1 ∷ t2 ∷ []) 0 ≡ 0
     → Models p n t1 t2
 loaded-models p n t1 t2 h =
     let (prime, h2) = Refusal.refuse-none 0 (badPrime p) _ h in
@@ -128,7 +125,7 @@ propose-reached (is-paired p n t1 t2 u v h) s r = rw (view-paired (paired-given 
 
 -- where 5, 6 and 7 do not apply, the finder answers 0 to two lent lists of n words
 find-answers : {p n : ℕ} {t1 t2 : List ℕ} → Models p n t1 t2
-    → refuse 5 (not (eqb ((p - 1) % n) 0)) (refuse 6 (hasDivisor p t1) (refuse 7 (hasDivisor p t2) 0)) ≡ 0
+    → pairNumber p n t1 t2 ≡ 0
     → findNumber p n t1 t2 (replicate n 0) (replicate n 0) ≡ 0
 unfolding findNumber
 find-answers {p} {n} {t1} {t2} m h =
@@ -142,7 +139,7 @@ find-answers {p} {n} {t1} {t2} m h =
     h
 
 pub found-accepted : {p n : ℕ} {t1 t2 : List ℕ} → Models p n t1 t2
-    → refuse 5 (not (eqb ((p - 1) % n) 0)) (refuse 6 (hasDivisor p t1) (refuse 7 (hasDivisor p t2) 0)) ≡ 0
+    → pairNumber p n t1 t2 ≡ 0
     → checkNumber p n t1 t2 (findS p n t1 t2) (findR p n t1 t2) ≡ 0
 unfolding findOutputS findOutputR
 found-accepted {p} {n} {t1} {t2} m h =

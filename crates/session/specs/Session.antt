@@ -11,13 +11,12 @@
 --   clear x                  any state to empty; it never refuses
 use mathlib.Core.Bool.{Bool, true, false, _&&_, _||_, not}
 use mathlib.Core.List.{List, [], _∷_, _++_}
-use Prim.Native.Nat.{ℕ, zero, suc, _-_, _/_, _%_}
+use Prim.Native.Nat.{ℕ, zero, suc, _/_, _%_}
 use lib.Dec.{ltb, eqb}
 use lib.ListN.{length, take, drop, replicate}
-use Rattle.finder.specs.Finder.{findS, findR}
-use Rattle.modular.specs.Refusal.{refuse, badPrime, badDegree, badLength, badWord, written}
+use Rattle.finder.specs.Finder.{findS, findR, pairNumber}
+use Rattle.modular.specs.Refusal.{refuse, refuseSent, badPrime, badDegree, badLength, badWord, written}
 use Rattle.pair.specs.Pair.{accepts}
-use Rattle.quotient.specs.DivisorTest.{hasDivisor}
 use Rattle.quotient.specs.Residue.{substitute}
 use Rattle.quotient.specs.Array.{padded}
 use Rattle.session.specs.declared.Session.{Session}
@@ -74,8 +73,7 @@ answer (suc k) next taken = record { number = suc k; session = taken }
 unfoldable pub loadFrom : View → Session → ℕ → ℕ → List ℕ → List ℕ → Step
 loadFrom empty x p n t1 t2 =
     answer
-    (refuse 1 (badPrime p)
-    (refuse 2 (badDegree n) (refuse 3 (badLength n (t1 ∷ t2 ∷ [])) (refuse 4 (badWord p (t1 ∷ t2 ∷ [])) 0))))
+    (refuseSent p n (t1 ∷ t2 ∷ []) (t1 ∷ t2 ∷ []) 0)
     (loadedSession p n t1 t2)
     x
 loadFrom (loaded q m u1 u2) x p n t1 t2 = answer 23 x x
@@ -100,7 +98,7 @@ unfoldable pub findFrom : View → Session → Step
 findFrom empty x = answer 21 x x
 findFrom (loaded p n t1 t2) x =
     answer
-    (refuse 5 (not (eqb ((p - 1) % n) 0)) (refuse 6 (hasDivisor p t1) (refuse 7 (hasDivisor p t2) 0)))
+    (pairNumber p n t1 t2)
     (pairedSession p n t1 t2 (findS p n t1 t2) (findR p n t1 t2))
     x
 findFrom (paired p n t1 t2 s r) x = answer 24 x x

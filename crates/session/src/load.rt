@@ -8,12 +8,12 @@ use crate::value::loaded;
 use crate::view::counts_as;
 ghost use mathlib.Core.List.{[], _∷_};
 ghost use mathlib.Core.Path.{_≡_};
-ghost use Rattle.modular.specs.Refusal.{refuse, badPrime, badDegree, badLength, badWord};
+ghost use Rattle.modular.specs.Refusal.{refuseSent};
 ghost use Rattle.session.specs.Session.{load as loadOf};
 
 // 1 to 4, of two models.
 fn models_number(p: u32, n: u32, t1: &[u16], t2: &[u16]) -> u32
-    ensures { λ r. ⌜ r ≡ refuse 1 (badPrime p) (refuse 2 (badDegree n) (refuse 3 (badLength n (now (t1 .entry) ∷ now (t2 .entry) ∷ [])) (refuse 4 (badWord p (now (t1 .entry) ∷ now (t2 .entry) ∷ [])) 0))) ⌝ }
+    ensures { λ r. ⌜ r ≡ refuseSent p n (now (t1 .entry) ∷ now (t2 .entry) ∷ []) (now (t1 .entry) ∷ now (t2 .entry) ∷ []) 0 ⌝ }
 {
     let number = size_number(p, n);
     if number != 0 {
