@@ -10,7 +10,6 @@ use mathlib.Core.List.{List}
 use Prim.Native.Nat.{ℕ, suc, _-_, _%_, _≤_}
 use lib.ListN.{length}
 use Rattle.finder.specs.Finder.{zeta, ratio, express, findS, findR, findOutputS, findOutputR}
-use Rattle.finder.specs.Theorem.{Models}
 use Rattle.finder.proofs.ChosenPair.{zeta-found}
 use Rattle.finder.proofs.Construction.{root-independent}
 use Rattle.finder.proofs.Express.{express-is, express-unique}
@@ -42,36 +41,33 @@ module _ {p n : ℕ} {t1 t2 : List ℕ} {z : ℕ} {v1 v2 : List ℕ} {a1 a2 c : 
   congruences = checker-theorem p (suc n) t1 t2 s r .0 (h .accepted) .1
 
   root-of-t1 : modulusAt p t2 s t1 ≡ constant (suc n) 0
-  root-of-t1 = congruences .root-of-t1 ∙ ap (λ k. constant k 0) (words-length (given .modulus2))
+  root-of-t1 = congruences .root-of-t1 ∙ ap (λ k. constant k 0) (words-length (given .models .modulus2))
 
   order : OrderModulo p (suc n) z
-  order = subst (OrderModulo p (suc n)) (h .zeta-is) (zeta-found (given .prime) (given .degree .1) (h .divides) .2)
+  order = subst (OrderModulo p (suc n)) (h .zeta-is) (zeta-found (given .models .prime) (given .models .degree .1) (h .divides) .2)
 
   alpha1-found : IsAlpha p (suc n) t1 z v1 a1
-  alpha1-found = root-is-alpha (given .prime) (given .modulus1) (h .divides) order (h .root1)
+  alpha1-found = root-is-alpha (given .models .prime) (given .models .modulus1) (h .divides) order (h .root1)
 
   alpha2-found : IsAlpha p (suc n) t2 z v2 a2
-  alpha2-found = root-is-alpha (given .prime) (given .modulus2) (h .divides) order (h .root2)
+  alpha2-found = root-is-alpha (given .models .prime) (given .models .modulus2) (h .divides) order (h .root2)
 
   s-is : findS p (suc n) t1 t2 ≡ s
   unfolding findS
   s-is =
-      let big : 2 ≤ p = given .prime .0 in
+      let big : 2 ≤ p = given .models .prime .0 in
       rw (h .zeta-is, alpha1-found .alpha-is, alpha2-found .alpha-is, alpha1-found .constant-is, alpha2-found .constant-is, h .ratio-is, ← h .image-is)
-      (sym (substitute-substitute big (given .modulus1) (given .modulus2) (given .words-s) root-of-t1 (alpha1-found .words) (express p t1 v1))
-      ∙ ap (substitute p t2 s) (express-is big (given .modulus1) (alpha1-found .words) (alpha1-found .independent) .1)
-      ∙ x-substitute big (given .modulus1) (given .modulus2) (given .words-s) root-of-t1)
+      (sym (substitute-substitute big (given .models .modulus1) (given .models .modulus2) (given .words-s) root-of-t1 (alpha1-found .words) (express p t1 v1))
+      ∙ ap (substitute p t2 s) (express-is big (given .models .modulus1) (alpha1-found .words) (alpha1-found .independent) .1)
+      ∙ x-substitute big (given .models .modulus1) (given .models .modulus2) (given .words-s) root-of-t1)
 
   r-is : findR p (suc n) t1 t2 ≡ r
   unfolding findR
   r-is =
       ap (express p t2) s-is
-      ∙ express-unique (given .prime .0) (given .modulus2) (given .words-s)
-      (root-independent (given .prime) (given .modulus1) (given .modulus2) (alpha1-found .irreducible) (given .words-s) root-of-t1)
+      ∙ express-unique (given .models .prime .0) (given .models .modulus2) (given .words-s)
+      (root-independent (given .models .prime) (given .models .modulus1) (given .models .modulus2) (alpha1-found .irreducible) (given .words-s) root-of-t1)
       r (given .words-r) (congruences .r-of-s)
-
-  models : Models p (suc n) t1 t2
-  models = record { prime = given .prime; small = given .small; degree = given .degree; modulus1 = given .modulus1; modulus2 = given .modulus2 }
 
   values-found : Found p (suc n) t1 t2 z v1 v2 a1 a2 c s r
   values-found =
@@ -85,7 +81,7 @@ module _ {p n : ℕ} {t1 t2 : List ℕ} {z : ℕ} {v1 v2 : List ℕ} {a1 a2 c : 
         s-is = s-is;
         r-is = r-is;
         number-is = λ lentS lentR lengthS lengthR.
-            demand-3 p (suc n) t1 t2 models .returns (h .divides) lentS lentR lengthS lengthR .1 (alpha1-found .irreducible, alpha2-found .irreducible);
+            demand-3 p (suc n) t1 t2 (given .models) .returns (h .divides) lentS lentR lengthS lengthR .1 (alpha1-found .irreducible, alpha2-found .irreducible);
       }
 
 pub found : {p n : ℕ} {t1 t2 : List ℕ} {z : ℕ} {v1 v2 : List ℕ} {a1 a2 c : ℕ} {s r : List ℕ}

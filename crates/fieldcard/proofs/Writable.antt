@@ -1,22 +1,21 @@
 -- No refusal of the writer applies to the words of a pair that is found: by demand 3 the checker accepts the pair, so all four lists have n words below p.
 use mathlib.Core.Path.{_≡_, refl, sym, ap, subst, subst₂}
-use mathlib.Core.Bool.{Bool, true, false}
 use mathlib.Core.List.{List, [], _∷_, _++_}
 use Prim.Native.Nat.{ℕ, _+_, _*_}
 use native.Mathlib.Nat as Nat
 use native.Mathlib.Omega.{arith}
 use lib.ListN.{replicate, length-replicate}
-use Rattle.modular.specs.Refusal.{refuse, badPrime, badDegree, badLength, badWord, written}
+use Rattle.modular.specs.Refusal.{written}
 use Rattle.quotient.specs.Residue.{Words}
-use Rattle.quotient.proofs.Refusal.{given-prime, given-degree, given-words}
+use Rattle.modular.proofs.Refusal.{given-prime, given-degree, sent-given, given-sent}
+use Rattle.quotient.proofs.Refusal.{given-words}
 use Rattle.quotient.proofs.Words.{words-length}
 use Rattle.card.specs.Card.{badKind, cardLength, writeNumber}
 use Rattle.card.proofs.Conditions.{length-good}
 use Rattle.card.proofs.Refusals.{write-accepts}
-use Rattle.pair.specs.Theorem.{Given}
+use Rattle.pair.specs.Theorem.{Models, Given}
 use Rattle.pair.proofs.Theorem.{checker-theorem}
 use Rattle.finder.specs.Finder.{findNumber, findS, findR, findOutputS, findOutputR}
-use Rattle.finder.specs.Theorem.{Models}
 use Rattle.finder.proofs.FindAnswer.{models}
 use Rattle.finder.proofs.Theorem.{demand-3}
 use Rattle.fieldcard.specs.Parts.{pairWords, pairFault}
@@ -25,19 +24,11 @@ words-append : {p n m : ℕ} {u v : List ℕ} → Words p n u → Words p m v �
 words-append {p} {m = m} {v = v} Words.none w = subst (λ k. Words p k v) (sym (Nat.zero-add m)) w
 words-append {p} {m = m} {v = v} (Words.more {a = a} {n = n} {u = u} h t) w = subst (λ k. Words p k (a ∷ (u ++ v))) (sym (Nat.suc-add n m)) (Words.more h (words-append t w))
 
--- where a number is 0 none of its first four conditions applies
-first-four : (a b c d : Bool) (rest : ℕ) → refuse 1 a (refuse 2 b (refuse 3 c (refuse 4 d rest))) ≡ 0 → refuse 1 a (refuse 2 b (refuse 3 c (refuse 4 d 0))) ≡ 0
-first-four true b c d rest h = h
-first-four false true c d rest h = h
-first-four false false true d rest h = h
-first-four false false false true rest h = h
-first-four false false false false rest h = refl
-
 module _ (p n : ℕ) (t1 t2 lentS lentR : List ℕ) (none : findNumber p n t1 t2 lentS lentR ≡ 0) where
   -- 1 to 4 do not apply
   two-models : Models p n t1 t2
   unfolding findNumber
-  two-models = models p n _ t1 t2 lentS lentR refl (first-four (badPrime p) (badDegree n) (badLength n (t1 ∷ t2 ∷ lentS ∷ lentR ∷ [])) (badWord p (t1 ∷ t2 ∷ [])) _ none)
+  two-models = models p n _ t1 t2 lentS lentR refl (given-sent p n (t1 ∷ t2 ∷ lentS ∷ lentR ∷ []) (t1 ∷ t2 ∷ []) 0 (sent-given p n (t1 ∷ t2 ∷ lentS ∷ lentR ∷ []) (t1 ∷ t2 ∷ []) _ none .0))
 
   -- the checker accepts what is found, so S and R have n words below p
   accepted : Given p n t1 t2 (findS p n t1 t2) (findR p n t1 t2)
@@ -53,15 +44,15 @@ module _ (p n : ℕ) (t1 t2 : List ℕ) (none : pairFault p n t1 t2 ≡ 0) where
 
   four-lists : Words p (n + (n + (n + n))) (pairWords p n t1 t2)
   unfolding pairWords
-  four-lists = words-append (pair-given .modulus1) (words-append (pair-given .modulus2) (words-append (pair-given .words-s) (pair-given .words-r)))
+  four-lists = words-append (pair-given .models .modulus1) (words-append (pair-given .models .modulus2) (words-append (pair-given .words-s) (pair-given .words-r)))
 
   pub pair-writable : writeNumber p n 2 (pairWords p n t1 t2) (replicate (cardLength p n 2) 0) ≡ 0
   unfolding badKind
   pair-writable =
       write-accepts p n 2 (pairWords p n t1 t2) (replicate (cardLength p n 2) 0)
       (record {
-        prime = given-prime p (pair-given .prime) (pair-given .small);
-        degree = given-degree n (pair-given .degree .0) (pair-given .degree .1);
+        prime = given-prime p (pair-given .models .prime) (pair-given .models .small);
+        degree = given-degree n (pair-given .models .degree .0) (pair-given .models .degree .1);
         kind-good = refl;
         count = length-good (4 * n) (pairWords p n t1 t2) (omega (arith, words-length four-lists));
         size = length-good (cardLength p n 2) (replicate (cardLength p n 2) 0) (length-replicate (cardLength p n 2) 0);

@@ -1,6 +1,6 @@
--- The public call: what the refusals 1 to 4 leave, the copies between lists and arrays, and what the two lent lists hold at the end.
+-- The public call: what the refusals leave, the copies between lists and arrays, and what the two lent lists hold at the end.
 use mathlib.Core.Path.{_≡_, refl, sym, ap, subst, subst₂, _∙_}
-use mathlib.Core.Bool.{Bool, true, false, not, and-self-left}
+use mathlib.Core.Bool.{false, not}
 use mathlib.Core.List.{List, [], _∷_}
 use mathlib.Core.Logic.{inl, inr}
 use Prim.Native.Nat.{ℕ, _-_, _%_, _^_, _≤_}
@@ -10,29 +10,35 @@ use lib.ListN.{length, take}
 use borrow.Author.Tests.{eq-eqb, eqb-true, not-false}
 use Rattle.algebra.specs.Lists.{Member, all}
 use Rattle.algebra.proofs.Search.{member-of-all}
-use Rattle.modular.specs.Prime.{isPrime}
-use Rattle.modular.specs.Refusal.{refuse, refuseSent, badPrime, badDegree, badLength, badWord, allBelow, written}
+use Rattle.modular.specs.Refusal.{refuseSent, badLength, written}
 use Rattle.quotient.specs.DivisorTest.{hasDivisor}
 use Rattle.quotient.specs.Residue.{Words}
-use Rattle.quotient.proofs.Refusal as Refusal
+use Rattle.modular.proofs.Refusal.{refuse-none, Sent, sent-given, given-sent, sent-stays}
+use Rattle.quotient.proofs.Refusal.{words-given}
 use Rattle.quotient.proofs.Words.{words-length}
 use Rattle.quotient.specs.Array.{padded, Holds}
 use Rattle.residue.proofs.Answers.{output-new, output-old, words-up}
 use Rattle.quotient.proofs.Padded.{front-is, holds-is}
-use Rattle.pair.proofs.Refusals.{first-stays}
+use Rattle.residue.proofs.Refusals.{word-twice}
 use Rattle.finder.specs.Construct.{FoundPair}
 use Rattle.finder.specs.Finder.{findS, findR, pairNumber, findNumber, findOutputS, findOutputR}
 use Rattle.finder.specs.System.{Independent}
-use Rattle.finder.specs.Theorem.{Models}
+use Rattle.pair.specs.Theorem.{Models}
 use Rattle.finder.proofs.Express.{express-is}
 use Rattle.finder.proofs.Values.{find-s-independent}
 
 -- a list that is named twice adds no refusal
-pub refusal-is : (p n number : ℕ) (t1 t2 s r : List ℕ) (prime degree size word : Bool) → number ≡ refuse 1 (not prime) (refuse 2 degree (refuse 3 size (refuse 4 word 0)))
-    → prime ≡ isPrime p → degree ≡ badDegree n → size ≡ badLength n (t1 ∷ t2 ∷ s ∷ r ∷ []) → word ≡ badWord p (t1 ∷ t2 ∷ t2 ∷ [])
-    → number ≡ refuseSent p n (t1 ∷ t2 ∷ s ∷ r ∷ []) (t1 ∷ t2 ∷ []) 0
-unfolding badPrime badWord all
-refusal-is p n number t1 t2 s r prime degree size word e a b c d = rw (e, a, b, c, d, and-self-left (allBelow p t2) true)
+pub refusal-is : (p n number : ℕ) (xss : List (List ℕ)) (t1 t2 : List ℕ) → number ≡ refuseSent p n xss (t1 ∷ t2 ∷ t2 ∷ []) 0
+    → number ≡ refuseSent p n xss (t1 ∷ t2 ∷ []) 0
+refusal-is p n number xss t1 t2 e = rw (word-twice p t1 t2) at e
+
+-- what 5 to 7 leave
+pub none-apply : (p n : ℕ) (t1 t2 : List ℕ) → pairNumber p n t1 t2 ≡ 0 → ((p - 1) % n ≡ 0) × (hasDivisor p t1 ≡ false) × (hasDivisor p t2 ≡ false)
+none-apply p n t1 t2 h =
+    let (divides, h6) = refuse-none 4 (not (eqb ((p - 1) % n) 0)) _ h in
+    let (first, h7) = refuse-none 5 (hasDivisor p t1) _ h6 in
+    let (second, _) = refuse-none 6 (hasDivisor p t2) 0 h7 in
+    (eqb-true ((p - 1) % n) 0 (not-false (eqb ((p - 1) % n) 0) divides), first, second)
 
 -- the arrays that hold the moduli
 
@@ -61,16 +67,9 @@ module _ (p n : ℕ) (t1 t2 : List ℕ) (m : Models p n t1 t2) where
     kept other new old = output-old number number new old refl other
 
     module _ (zero-is : number ≡ 0) where
-      left : (hasDivisor p t1 ≡ false) × (hasDivisor p t2 ≡ false) × ((p - 1) % n ≡ 0)
-      left =
-          let (divides, h6) = Refusal.refuse-none 4 (not (eqb ((p - 1) % n) 0)) _ (sym (found .number-is) ∙ zero-is) in
-          let (first, h7) = Refusal.refuse-none 5 (hasDivisor p t1) _ h6 in
-          let (second, _) = Refusal.refuse-none 6 (hasDivisor p t2) 0 h7 in
-          (first, second, eqb-true ((p - 1) % n) 0 (not-false (eqb ((p - 1) % n) 0) divides))
-
       independent : Words p n (findS p n t1 t2) × Independent p n t2 (findS p n t1 t2)
       independent =
-          let (first, second, divides) = left in
+          let (divides, first, second) = none-apply p n t1 t2 (sym (found .number-is) ∙ zero-is) in
           find-s-independent p (m .prime) n t1 t2 (m .degree .0) (m .degree .1) divides (m .modulus1) (m .modulus2) first second
 
       backward-words : Words p n (findR p n t1 t2)
@@ -106,7 +105,7 @@ module _ (p n number : ℕ) (t1 t2 s r : List ℕ)
   module _ (other : number ≡ 0 → ⊥) where
     pub find-refused : number ≡ findNumber p n t1 t2 s r
     unfolding findNumber
-    find-refused = e ∙ first-stays (badPrime p) (badDegree n) (badLength n (t1 ∷ t2 ∷ s ∷ r ∷ [])) (badWord p (t1 ∷ t2 ∷ [])) _ (λ z. other (e ∙ z))
+    find-refused = sent-stays p n (t1 ∷ t2 ∷ s ∷ r ∷ []) (t1 ∷ t2 ∷ []) _ number e other
 
     pub forward-kept : s ≡ findOutputS p n t1 t2 s r
     unfolding findOutputS
@@ -117,17 +116,12 @@ module _ (p n number : ℕ) (t1 t2 s r : List ℕ)
     backward-kept = output-old number (findNumber p n t1 t2 s r) (findR p n t1 t2) r find-refused other
 
   module _ (zero-is : number ≡ 0) where
-    none : (badPrime p ≡ false) × (badDegree n ≡ false) × (badLength n (t1 ∷ t2 ∷ s ∷ r ∷ []) ≡ false) × (badWord p (t1 ∷ t2 ∷ []) ≡ false)
-    none =
-        let (prime, h2) = Refusal.refuse-none 0 (badPrime p) _ (sym e ∙ zero-is) in
-        let (degree, h3) = Refusal.refuse-none 1 (badDegree n) _ h2 in
-        let (lengths, h4) = Refusal.refuse-none 2 (badLength n (t1 ∷ t2 ∷ s ∷ r ∷ [])) _ h3 in
-        let (words, _) = Refusal.refuse-none 3 (badWord p (t1 ∷ t2 ∷ [])) 0 h4 in
-        (prime, degree, lengths, words)
+    sent : Sent p n (t1 ∷ t2 ∷ s ∷ r ∷ []) (t1 ∷ t2 ∷ [])
+    sent = sent-given p n (t1 ∷ t2 ∷ s ∷ r ∷ []) (t1 ∷ t2 ∷ []) 0 (sym e ∙ zero-is) .0
 
     size-of : (xs : List ℕ) → Member xs (t1 ∷ t2 ∷ s ∷ r ∷ []) → length xs ≡ n
     unfolding badLength
-    size-of xs l = eqb-true (length xs) n (member-of-all (λ ys. eqb (length ys) n) (t1 ∷ t2 ∷ s ∷ r ∷ []) (not-false _ (none .2)) xs l)
+    size-of xs l = eqb-true (length xs) n (member-of-all (λ ys. eqb (length ys) n) (t1 ∷ t2 ∷ s ∷ r ∷ []) (not-false _ (sent .lengths)) xs l)
 
     pub forward-size : length s ≡ n
     forward-size = size-of s (inr (inr (inl refl)))
@@ -141,19 +135,13 @@ module _ (p n number : ℕ) (t1 t2 s r : List ℕ)
 
     pub models : Models p n t1 t2
     models =
-        let lists = Refusal.words-given p n (t1 ∷ t2 ∷ []) lengths (none .3) in
-        record {
-          prime = Refusal.prime-given p (none .0) .0;
-          small = Refusal.prime-given p (none .0) .1;
-          degree = Refusal.degree-given n (none .1);
-          modulus1 = lists .0;
-          modulus2 = lists .1 .0;
-        }
+        let lists = words-given p n (t1 ∷ t2 ∷ []) lengths (sent .words) in
+        record { prime = sent .prime; small = sent .small; degree = (sent .low, sent .high); modulus1 = lists .0; modulus2 = lists .1 .0 }
 
     -- nothing of 1 to 4 applies, so 5 to 7 decide
     pub find-answered : (answer : ℕ) → answer ≡ pairNumber p n t1 t2 → answer ≡ findNumber p n t1 t2 s r
     unfolding findNumber
-    find-answered answer f = f ∙ sym (rw (none .0, none .1, none .2, none .3))
+    find-answered answer f = f ∙ sym (given-sent p n (t1 ∷ t2 ∷ s ∷ r ∷ []) (t1 ∷ t2 ∷ []) _ sent)
 
     pub forward-output : (answer : ℕ) → answer ≡ pairNumber p n t1 t2 → (s′ : List ℕ) → s′ ≡ written answer (findS p n t1 t2) s → s′ ≡ findOutputS p n t1 t2 s r
     unfolding findOutputS

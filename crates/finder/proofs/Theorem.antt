@@ -2,25 +2,26 @@
 -- none of its refusals applies; for two models and n that divides p − 1 only 6 and 7 are left, which test for proper divisors. Without those the
 -- searches find the chosen pair, it satisfies the congruences, and the checker accepts it.
 --   Returned p n t1 t2   what the answer 0 says of two models
-use mathlib.Core.Path.{_≡_, refl, sym, ap, ap₂, subst₂}
+use mathlib.Core.Path.{_≡_, refl, sym, ap, ap₂, subst₂, _∙_}
 use mathlib.Core.Bool.{false, not, _&&_}
 use mathlib.Core.List.{List, [], _∷_}
 use Prim.Native.Nat.{ℕ, zero, suc, _-_, _%_}
 use native.Mathlib.Omega.{arith}
-use lib.Dec.{eqb}
 use lib.ListN.{length}
-use borrow.Author.Tests.{eqb-true, eq-eqb, not-false}
+use borrow.Author.Tests.{eq-eqb}
 use Rattle.algebra.specs.Lists.{all}
-use Rattle.modular.specs.Refusal.{badPrime, badDegree, badLength, badWord, written}
+use Rattle.modular.specs.Refusal.{badLength, written}
 use Rattle.pair.specs.Pair.{checkNumber}
+use Rattle.pair.specs.Theorem.{Models}
 use Rattle.pair.proofs.Theorem.{checker-theorem}
 use Rattle.quotient.specs.Divisor.{HasDivisor}
-use Rattle.quotient.specs.DivisorTest.{hasDivisor}
-use Rattle.quotient.proofs.Refusal as Refusal
+use Rattle.modular.proofs.Refusal.{sent-given, given-sent}
+use Rattle.quotient.proofs.Refusal.{given-words}
 use Rattle.quotient.proofs.Words.{words-length}
 use Rattle.finder.specs.Finder.{findS, findR, findNumber, findOutputS, findOutputR}
-use Rattle.finder.specs.Theorem.{ChosenPair, Models, Demand3Theorem}
+use Rattle.finder.specs.Theorem.{ChosenPair, Demand3Theorem}
 use Rattle.finder.proofs.ChosenPair.{chosen-words, chosen-congruences, chosen-unique, found-chosen}
+use Rattle.finder.proofs.FindAnswer.{none-apply}
 use Rattle.finder.proofs.Values.{test-irreducible, irreducible-test}
 
 record Returned (p n : ℕ) (t1 t2 : List ℕ) : Type 0 where
@@ -32,17 +33,12 @@ module _ (p n : ℕ) (t1 t2 : List ℕ) (models : Models p n t1 t2) (lentS lentR
   returned : findNumber p n t1 t2 lentS lentR ≡ 0 → Returned p n t1 t2
   unfolding findNumber
   returned h =
-      let (e1, h2) = Refusal.refuse-none 0 (badPrime p) _ h in
-      let (e2, h3) = Refusal.refuse-none 1 (badDegree n) _ h2 in
-      let (e3, h4) = Refusal.refuse-none 2 (badLength n (t1 ∷ t2 ∷ lentS ∷ lentR ∷ [])) _ h3 in
-      let (e4, h5) = Refusal.refuse-none 3 (badWord p (t1 ∷ t2 ∷ [])) _ h4 in
-      let (e5, h6) = Refusal.refuse-none 4 (not (eqb ((p - 1) % n) 0)) _ h5 in
-      let (e6, h7) = Refusal.refuse-none 5 (hasDivisor p t1) _ h6 in
-      let (e7, end) = Refusal.refuse-none 6 (hasDivisor p t2) 0 h7 in
+      let (_, h5) = sent-given p n (t1 ∷ t2 ∷ lentS ∷ lentR ∷ []) (t1 ∷ t2 ∷ []) _ h in
+      let (divides, first, second) = none-apply p n t1 t2 h5 in
       record {
-        divides = eqb-true ((p - 1) % n) 0 (not-false (eqb ((p - 1) % n) 0) e5);
-        irreducible1 = test-irreducible p (models .prime) (models .modulus1) e6;
-        irreducible2 = test-irreducible p (models .prime) (models .modulus2) e7;
+        divides = divides;
+        irreducible1 = test-irreducible p (models .prime) (models .modulus1) first;
+        irreducible2 = test-irreducible p (models .prime) (models .modulus2) second;
       }
 
   lengths-given : length lentS ≡ n → length lentR ≡ n → badLength n (t1 ∷ t2 ∷ lentS ∷ lentR ∷ []) ≡ false
@@ -55,11 +51,16 @@ module _ (p n : ℕ) (t1 t2 : List ℕ) (models : Models p n t1 t2) (lentS lentR
   returns : length lentS ≡ n → length lentR ≡ n → (p - 1) % n ≡ 0 → (HasDivisor p t1 → ⊥) → (HasDivisor p t2 → ⊥) → findNumber p n t1 t2 lentS lentR ≡ 0
   unfolding findNumber
   returns lengthS lengthR divides irreducible1 irreducible2 =
-      rw (
-        Refusal.given-prime p (models .prime) (models .small),
-        Refusal.given-degree n (models .degree .0) (models .degree .1),
-        lengths-given lengthS lengthR,
-        Refusal.given-words p n (t1 ∷ t2 ∷ []) (models .modulus1, (models .modulus2, tt)),
+      given-sent p n (t1 ∷ t2 ∷ lentS ∷ lentR ∷ []) (t1 ∷ t2 ∷ []) _
+      (record {
+        prime = models .prime;
+        small = models .small;
+        low = models .degree .0;
+        high = models .degree .1;
+        lengths = lengths-given lengthS lengthR;
+        words = given-words p n (t1 ∷ t2 ∷ []) (models .modulus1, (models .modulus2, tt));
+      })
+      ∙ rw (
         eq-eqb ((p - 1) % n) 0 divides,
         irreducible-test p (models .prime) (models .modulus1) irreducible1,
         irreducible-test p (models .prime) (models .modulus2) irreducible2,
@@ -75,11 +76,7 @@ found-accepted p (suc n) t1 t2 models divides irreducible1 irreducible2 =
       h,
       checker-theorem p (suc n) t1 t2 (findS p (suc n) t1 t2) (findR p (suc n) t1 t2) .1
           record {
-            prime = models .prime;
-            small = models .small;
-            degree = models .degree;
-            modulus1 = models .modulus1;
-            modulus2 = models .modulus2;
+            models = models;
             words-s = chosen-words (models .prime) (models .modulus1) (models .modulus2) h;
             words-r = h .r-is .0;
           }

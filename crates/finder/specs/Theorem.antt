@@ -4,6 +4,7 @@
 -- (a) an accepted pair's two maps preserve sums, products and one, and each undoes the other on every residue;
 -- (b) if n divides p − 1, the finder, lent two lists of n words, returns a pair exactly when neither modulus has a monic divisor of
 --     degree 1 to n − 1; that pair is the one of Algorithm 2.1 with document 01's choices, and the checker accepts it.
+--   Models p n t1 t2 (of pair)  p is a prime up to 65,535, n is 1 to 16, and t1 and t2 are n words below p each
 --   Smallest P p k              k is the smallest integer from 1 to p − 1 that satisfies P
 --   Eigenvector p t z a         a is not zero, a^p = z·a modulo T, and its first coefficient that is not zero is 1
 --   ChosenPair p n t1 t2 s r    S and R are the polynomials of Algorithm 2.1 with the choices of document 01
@@ -12,9 +13,8 @@ use mathlib.Core.List.{List}
 use mathlib.Core.Logic.{_↔_}
 use Prim.Native.Nat.{ℕ, _-_, _*_, _%_, _^_, _≤_, _<_}
 use lib.ListN.{length}
-use Rattle.algebra.specs.Prime.{Prime}
 use Rattle.pair.specs.Pair.{checkNumber}
-use Rattle.pair.specs.Theorem.{Isomorphisms}
+use Rattle.pair.specs.Theorem.{Models, Isomorphisms}
 use Rattle.quotient.specs.Divisor.{HasDivisor}
 use Rattle.quotient.specs.Residue.{Words, scale, constant, power, residueOfX, substitute}
 use Rattle.finder.specs.Finder.{leading, findNumber, findOutputS, findOutputR}
@@ -45,14 +45,6 @@ pub record ChosenPair (p n : ℕ) (t1 t2 s r : List ℕ) : Type 0 where
   pub p1-is : Words p n p1 × (substitute p t1 alpha1 p1 ≡ residueOfX p t1)
   pub s-is : s ≡ substitute p t2 (scale p c alpha2) p1
   pub r-is : Words p n r × (substitute p t2 s r ≡ residueOfX p t2)
-
--- two models of one size
-pub record Models (p n : ℕ) (t1 t2 : List ℕ) : Type 0 where
-  pub prime : Prime p
-  pub small : p ≤ 65535
-  pub degree : (1 ≤ n) × (n ≤ 16)
-  pub modulus1 : Words p n t1
-  pub modulus2 : Words p n t2
 
 pub record Demand3 (p n : ℕ) (t1 t2 : List ℕ) : Type 0 where
   pub accepted : (s r : List ℕ) → checkNumber p n t1 t2 s r ≡ 0 → Isomorphisms p n t1 t2 s r

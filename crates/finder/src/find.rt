@@ -5,7 +5,7 @@ ghost use lib.ListN.{length};
 ghost use Rattle.modular.specs.Refusal.{refuseSent, written};
 ghost use Rattle.finder.specs.Construct.{FoundPair};
 ghost use Rattle.finder.specs.Finder.{findS, findR, pairNumber, findNumber, findOutputS, findOutputR};
-ghost use Rattle.finder.specs.Theorem.{Models};
+ghost use Rattle.pair.specs.Theorem.{Models};
 use crate::construct::Found;
 use crate::construct::find_pair;
 use modular::prime::is_prime;

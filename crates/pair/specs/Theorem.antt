@@ -10,13 +10,17 @@ use Rattle.quotient.specs.Map.{Preserves, Undoes}
 use Rattle.quotient.specs.Residue.{Words}
 use Rattle.pair.specs.Pair.{forward, backward, Congruences, checkNumber}
 
--- two models of one size, and a pair of lists: what 1 to 4 do not refuse
-pub record Given (p n : ℕ) (t1 t2 s r : List ℕ) : Type 0 where
+-- two models of one size
+pub record Models (p n : ℕ) (t1 t2 : List ℕ) : Type 0 where
   pub prime : Prime p
   pub small : p ≤ 65535
   pub degree : (1 ≤ n) × (n ≤ 16)
   pub modulus1 : Words p n t1
   pub modulus2 : Words p n t2
+
+-- and a pair of lists: what 1 to 4 do not refuse
+pub record Given (p n : ℕ) (t1 t2 s r : List ℕ) : Type 0 where
+  pub models : Models p n t1 t2
   pub words-s : Words p n s
   pub words-r : Words p n r
 

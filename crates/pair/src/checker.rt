@@ -6,6 +6,7 @@ use residue::array::load;
 use residue::refusal::bad_degree;
 use residue::refusal::bad_length;
 use residue::refusal::bad_word;
+use residue::refusal::first;
 ghost use mathlib.Core.Path.{_≡_};
 ghost use mathlib.Core.List.{[], _∷_};
 ghost use Rattle.modular.specs.Refusal.{refuseSent, badWord};
@@ -27,19 +28,12 @@ fn refusal(p: u32, n: u32, t1: &[u16], t2: &[u16], s: &[u16], r: &[u16]) -> u32
     ensures { λ number. ⌜ number ≡ refuseSent p n (now (t1 .entry) ∷ now (t2 .entry) ∷ now (s .entry) ∷ now (r .entry) ∷ [])
         (now (t1 .entry) ∷ now (t2 .entry) ∷ now (s .entry) ∷ now (r .entry) ∷ []) 0 ⌝ }
 {
-    if !is_prime(p) {
-        return 1;
-    }
-    if bad_degree(n) {
-        return 2;
-    }
-    if bad_length(n, t2, s, r, t1) {
-        return 3;
-    }
-    if bad_words(p, t1, t2, s, r) {
-        return 4;
-    }
-    0
+    first(
+        !is_prime(p),
+        bad_degree(n),
+        bad_length(n, t2, s, r, t1),
+        bad_words(p, t1, t2, s, r),
+    )
 }
 
 // Whether the four congruences hold, for lists to which no other refusal applies.

@@ -9,7 +9,6 @@ use lib.ListN.{length}
 use borrow.Author.Tests.{ltb-true, lt-ltb, eqb-true, eq-eqb, not-false}
 use Rattle.algebra.specs.Lists.{All, all}
 use Rattle.modular.specs.Refusal.{badLength, badWord, allBelow}
-pub use Rattle.modular.proofs.Refusal.{refuse-none, prime-given, given-prime, degree-given, given-degree}
 use Rattle.quotient.specs.Residue.{Words, none, more}
 use Rattle.quotient.proofs.Words.{words-length}
 

@@ -9,8 +9,8 @@ use lib.Dec.{eqb}
 use lib.ListN.{length}
 use Rattle.algebra.specs.Lists.{Member, all}
 use Rattle.algebra.proofs.Lists.{all-member}
-use Rattle.modular.specs.Refusal.{badPrime, badDegree, badLength, badWord}
-use Rattle.modular.proofs.Refusal.{refuse-none, prime-bounds, degree-given}
+use Rattle.modular.specs.Refusal.{badLength}
+use Rattle.modular.proofs.Refusal.{sent-given}
 use Rattle.quotient.specs.Residue.{Words}
 use Rattle.quotient.proofs.Refusal.{words-given}
 use Rattle.residue.specs.Calls.{residueNumber}
@@ -26,16 +26,13 @@ pub record Accepted (p n : ℕ) (xss : List (List ℕ)) (out : List ℕ) : Type 
 pub accepted : (p n : ℕ) (xss : List (List ℕ)) (out : List ℕ) → residueNumber p n xss out ≡ 0 → Accepted p n xss out
 unfolding residueNumber badLength all
 accepted p n xss out e =
-    let one = refuse-none 0 (badPrime p) _ e in
-    let two = refuse-none 1 (badDegree n) _ (one .1) in
-    let three = refuse-none 2 (badLength n (out ∷ xss)) _ (two .1) in
-    let four = refuse-none 3 (badWord p xss) _ (three .1) in
-    let sizes = and-eq-true-iff (eqb (length out) n) (all (λ xs. eqb (length xs) n) xss) .0 (not-false _ (three .0)) in
+    let sent = sent-given p n (out ∷ xss) xss 0 e .0 in
+    let sizes = and-eq-true-iff (eqb (length out) n) (all (λ xs. eqb (length xs) n) xss) .0 (not-false _ (sent .lengths)) in
     record {
-      big = prime-bounds p (one .0) .0;
-      small = prime-bounds p (one .0) .1;
-      low = degree-given n (two .0) .0;
-      high = degree-given n (two .0) .1;
-      words = all-member (Words p n) xss (words-given p n xss (ap not (sizes .1)) (four .0));
+      big = sent .prime .0;
+      small = sent .small;
+      low = sent .low;
+      high = sent .high;
+      words = all-member (Words p n) xss (words-given p n xss (ap not (sizes .1)) (sent .words));
       size = eqb-true (length out) n (sizes .0);
     }

@@ -8,7 +8,7 @@ use lib.Dec.{ltb, leb, eqb}
 use lib.ListN.{length}
 use Rattle.algebra.specs.Lists.{all}
 use Rattle.modular.specs.Prime.{isPrime}
-use Rattle.modular.specs.Refusal.{refuse, badPrime, badDegree, badLength, badWord, allBelow}
+use Rattle.modular.specs.Refusal.{refuse, refuseSent, badPrime, badDegree, badLength, badWord, allBelow}
 use Rattle.residue.specs.Calls.{residueNumber}
 
 pub degree-low : (n : ℕ) → n < 1 → ltb n 1 ≡ badDegree n
@@ -55,16 +55,24 @@ module _ (p : ℕ) (t u v : List ℕ) (a : Bool) (e : a ≡ allBelow p t) where
     unfolding badWord all
     word-third c k g = rw (← e, not-false a h, ← f, not-false b k, ← g, and-true c)
 
-pub number-is : (p n r : ℕ) (t u v out : List ℕ) (prime degree size word : Bool) → r ≡ refuse 1 (not prime) (refuse 2 degree (refuse 3 size (refuse 4 word 0)))
-    → prime ≡ isPrime p → degree ≡ badDegree n → size ≡ badLength n (out ∷ t ∷ u ∷ v ∷ []) → word ≡ badWord p (t ∷ u ∷ v ∷ [])
-    → r ≡ residueNumber p n (t ∷ u ∷ v ∷ []) out
-unfolding residueNumber badPrime
-number-is p n r t u v out prime degree size word e a b c d = rw (e, a, b, c, d)
+-- the number of the first condition that applies
+pub first-is : (p n r : ℕ) (xss yss : List (List ℕ)) (prime degree size word : Bool) → r ≡ refuse 1 (not prime) (refuse 2 degree (refuse 3 size (refuse 4 word 0)))
+    → prime ≡ isPrime p → degree ≡ badDegree n → size ≡ badLength n xss → word ≡ badWord p yss → r ≡ refuseSent p n xss yss 0
+unfolding badPrime
+first-is p n r xss yss prime degree size word e a b c d = rw (e, a, b, c, d)
+
+pub number-is : (p n r : ℕ) (xss : List (List ℕ)) (out : List ℕ) → r ≡ refuseSent p n (out ∷ xss) xss 0 → r ≡ residueNumber p n xss out
+unfolding residueNumber
+number-is p n r xss out e = e
 
 -- a list that is named twice adds no refusal
+pub word-twice : (p : ℕ) (t u : List ℕ) → badWord p (t ∷ u ∷ u ∷ []) ≡ badWord p (t ∷ u ∷ [])
+unfolding badWord all
+word-twice p t u = rw (and-self-left (allBelow p u) true)
+
 number-twice : (p n : ℕ) (t u out : List ℕ) → residueNumber p n (t ∷ u ∷ u ∷ []) out ≡ residueNumber p n (t ∷ u ∷ []) out
-unfolding residueNumber badLength badWord all
-number-twice p n t u out = rw (and-self-left (eqb (length u) n) true, and-self-left (allBelow p u) true)
+unfolding residueNumber badLength all
+number-twice p n t u out = rw (and-self-left (eqb (length u) n) true, word-twice p t u)
 
 pub power-number : (r p n : ℕ) (t u out : List ℕ) → r ≡ residueNumber p n (t ∷ u ∷ u ∷ []) out → r ≡ residueNumber p n (t ∷ u ∷ []) out
 power-number r p n t u out e = e ∙ number-twice p n t u out

@@ -56,11 +56,11 @@ back-again (is-paired p n t1 t2 s r a) table out lent h room =
     let (g, congruences, isomorphisms) = checker-theorem p n t1 t2 s r .0 a in
     let e : view x ≡ paired p n t1 t2 s r = view-paired g in
     let c : Convertible p n table out = table-given p n table out (rw e at h) in
-    let big : 2 ≤ p = g .prime .0 in (
+    let big : 2 ≤ p = g .models .prime .0 in (
       ap (λ image. backOutput x image lent) (forward-output x e c)
-          ∙ back-output x e (image-convertible big (g .modulus2) (g .words-s) c lent room)
-          ∙ table-again big (g .modulus2) (g .words-s) c lent room t1 r (isomorphisms .back-undoes-forth),
+          ∙ back-output x e (image-convertible big (g .models .modulus2) (g .words-s) c lent room)
+          ∙ table-again big (g .models .modulus2) (g .words-s) c lent room t1 r (isomorphisms .back-undoes-forth),
       ap (λ image. forwardOutput x image lent) (back-output x e c)
-          ∙ forward-output x e (image-convertible big (g .modulus1) (g .words-r) c lent room)
-          ∙ table-again big (g .modulus1) (g .words-r) c lent room t2 s (isomorphisms .forth-undoes-back),
+          ∙ forward-output x e (image-convertible big (g .models .modulus1) (g .words-r) c lent room)
+          ∙ table-again big (g .models .modulus1) (g .words-r) c lent room t2 s (isomorphisms .forth-undoes-back),
     )

@@ -10,7 +10,7 @@ use borrow.Author.Tests.{not-true, not-false}
 use lib.ListN.{take}
 use Rattle.algebra.specs.Lists.{all}
 use Rattle.modular.specs.Refusal.{refuse, badPrime, badDegree, badWord}
-use Rattle.quotient.proofs.Refusal.{refuse-none, degree-given}
+use Rattle.modular.proofs.Refusal.{refuse-none, degree-given}
 use Rattle.session.specs.Session.{whole, view, viewAs}
 use Rattle.session.specs.Kind.{stateOf}
 use Rattle.session.specs.declared.Session.{Session}

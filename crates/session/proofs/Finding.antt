@@ -8,10 +8,10 @@ use native.Mathlib.Omega.{arith}
 use lib.ListN.{length, take, length-append}
 use lib.Seq.{take-at}
 use Rattle.finder.specs.Finder.{findS, findR, pairNumber, findNumber, findOutputS, findOutputR}
-use Rattle.finder.specs.Theorem.{Models}
+use Rattle.pair.specs.Theorem.{Models}
 use Rattle.modular.specs.Refusal.{written}
 use Rattle.pair.proofs.Theorem.{checker-theorem}
-use Rattle.quotient.proofs.Refusal.{prime-given, degree-given}
+use Rattle.modular.proofs.Refusal.{prime-given, degree-given}
 use Rattle.quotient.proofs.Words.{words-length}
 use Rattle.session.specs.Kind.{stateOf}
 use Rattle.session.specs.Session.{loaded, whole, view, pairedSession, answer, findFrom, find}

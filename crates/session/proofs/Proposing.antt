@@ -7,7 +7,8 @@ use native.Mathlib.Omega.{arith}
 use lib.ListN.{length, take}
 use Rattle.modular.specs.Refusal.{refuse, badLength, badWord}
 use Rattle.pair.specs.Pair.{accepts, checkNumber}
-use Rattle.quotient.proofs.Refusal.{refuse-none, words-given}
+use Rattle.modular.proofs.Refusal.{refuse-none}
+use Rattle.quotient.proofs.Refusal.{words-given}
 use Rattle.quotient.proofs.Words.{words-length}
 use Rattle.quotient.specs.Residue.{Words}
 use Rattle.session.specs.Kind.{stateOf}

@@ -2,7 +2,7 @@
 -- induction over the calls, each of which keeps this.
 --   view-new, view-loaded, view-paired    such a session counts as what it holds
 --   reached-next                          a call makes such a session of such a session
-use mathlib.Core.Path.{_≡_, refl}
+use mathlib.Core.Path.{_≡_, refl, _∙_}
 use mathlib.Core.Bool.{not}
 use mathlib.Core.List.{List, [], _∷_}
 use Prim.Native.Nat.{ℕ, zero, suc, _-_}
@@ -11,15 +11,15 @@ use borrow.Author.Tests.{not-false}
 use lib.ListN.{take, replicate}
 use Rattle.algebra.specs.Lists.{All}
 use Rattle.finder.specs.Finder.{findS, findR, pairNumber, findNumber, findOutputS, findOutputR}
-use Rattle.finder.specs.Theorem.{Models}
 use Rattle.finder.proofs.Theorem.{demand-3}
-use Rattle.modular.specs.Refusal.{refuse, refuseSent, badPrime, badDegree, badLength, badWord}
+use Rattle.modular.specs.Refusal.{refuse, refuseSent, badLength, badWord}
 use Rattle.pair.specs.Pair.{accepts, checkNumber}
-use Rattle.pair.specs.Theorem.{Given}
+use Rattle.pair.specs.Theorem.{Models, Given}
 use Rattle.pair.proofs.Accepts.{congruences-accepted}
 use Rattle.pair.proofs.Theorem.{checker-theorem}
 use Rattle.quotient.specs.Residue.{Words}
-use Rattle.quotient.proofs.Refusal as Refusal
+use Rattle.modular.proofs.Refusal.{refuse-none, given-prime, given-degree, sent-given, given-sent}
+use Rattle.quotient.proofs.Refusal.{words-given, given-lengths, given-words}
 use Rattle.quotient.proofs.Words.{words-length, zeros-words}
 use Rattle.quotient.specs.Array.{padded}
 use Rattle.quotient.proofs.Padded.{take-padded}
@@ -43,23 +43,23 @@ view-loaded {p} {n} {t1} {t2} m =
     rw (
       held (m .modulus1),
       held (m .modulus2),
-      Refusal.given-prime p (m .prime) (m .small),
-      Refusal.given-degree n (m .degree .0) (m .degree .1),
-      Refusal.given-words p n (t1 ∷ t2 ∷ []) lists,
+      given-prime p (m .prime) (m .small),
+      given-degree n (m .degree .0) (m .degree .1),
+      given-words p n (t1 ∷ t2 ∷ []) lists,
     )
 
 pub view-paired : {p n : ℕ} {t1 t2 s r : List ℕ} → Given p n t1 t2 s r → view (pairedSession p n t1 t2 s r) ≡ paired p n t1 t2 s r
 unfolding view pairedSession viewAs whole
 view-paired {p} {n} {t1} {t2} {s} {r} g =
-    let lists : All (Words p n) (t1 ∷ t2 ∷ s ∷ r ∷ []) = (g .modulus1, (g .modulus2, (g .words-s, (g .words-r, tt)))) in
+    let lists : All (Words p n) (t1 ∷ t2 ∷ s ∷ r ∷ []) = (g .models .modulus1, (g .models .modulus2, (g .words-s, (g .words-r, tt)))) in
     rw (
-      held (g .modulus1),
-      held (g .modulus2),
+      held (g .models .modulus1),
+      held (g .models .modulus2),
       held (g .words-s),
       held (g .words-r),
-      Refusal.given-prime p (g .prime) (g .small),
-      Refusal.given-degree n (g .degree .0) (g .degree .1),
-      Refusal.given-words p n (t1 ∷ t2 ∷ s ∷ r ∷ []) lists,
+      given-prime p (g .models .prime) (g .models .small),
+      given-degree n (g .models .degree .0) (g .models .degree .1),
+      given-words p n (t1 ∷ t2 ∷ s ∷ r ∷ []) lists,
     )
 
 -- the calls
@@ -73,18 +73,9 @@ pub loaded-models : (p n : ℕ) (t1 t2 : List ℕ)
     → refuseSent p n (t1 ∷ t2 ∷ []) (t1 ∷ t2 ∷ []) 0 ≡ 0
     → Models p n t1 t2
 loaded-models p n t1 t2 h =
-    let (prime, h2) = Refusal.refuse-none 0 (badPrime p) _ h in
-    let (degree, h3) = Refusal.refuse-none 1 (badDegree n) _ h2 in
-    let (lengths, h4) = Refusal.refuse-none 2 (badLength n (t1 ∷ t2 ∷ [])) _ h3 in
-    let (words, end) = Refusal.refuse-none 3 (badWord p (t1 ∷ t2 ∷ [])) 0 h4 in
-    let lists = Refusal.words-given p n (t1 ∷ t2 ∷ []) lengths words in
-    record {
-      prime = Refusal.prime-given p prime .0;
-      small = Refusal.prime-given p prime .1;
-      degree = Refusal.degree-given n degree;
-      modulus1 = lists .0;
-      modulus2 = lists .1 .0;
-    }
+    let sent = sent-given p n (t1 ∷ t2 ∷ []) (t1 ∷ t2 ∷ []) 0 h .0 in
+    let lists = words-given p n (t1 ∷ t2 ∷ []) (sent .lengths) (sent .words) in
+    record { prime = sent .prime; small = sent .small; degree = (sent .low, sent .high); modulus1 = lists .0; modulus2 = lists .1 .0 }
 
 load-reached : (v : View) {x : Session} → Reached x → (p n : ℕ) (t1 t2 : List ℕ) → Reached (loadFrom v x p n t1 t2 .session)
 unfolding loadFrom answer
@@ -96,20 +87,12 @@ proposed-accepted : {p n : ℕ} {t1 t2 : List ℕ} (s r : List ℕ) → Models p
     → refuse 3 (badLength n (s ∷ r ∷ [])) (refuse 4 (badWord p (s ∷ r ∷ [])) (refuse 8 (not (accepts p t1 t2 s r)) 0)) ≡ 0
     → checkNumber p n t1 t2 s r ≡ 0
 proposed-accepted {p} {n} {t1} {t2} s r m h =
-    let (lengths, h4) = Refusal.refuse-none 2 (badLength n (s ∷ r ∷ [])) _ h in
-    let (words, h8) = Refusal.refuse-none 3 (badWord p (s ∷ r ∷ [])) _ h4 in
-    let (accepted, end) = Refusal.refuse-none 7 (not (accepts p t1 t2 s r)) 0 h8 in
-    let lists = Refusal.words-given p n (s ∷ r ∷ []) lengths words in
+    let (lengths, h4) = refuse-none 2 (badLength n (s ∷ r ∷ [])) _ h in
+    let (words, h8) = refuse-none 3 (badWord p (s ∷ r ∷ [])) _ h4 in
+    let (accepted, end) = refuse-none 7 (not (accepts p t1 t2 s r)) 0 h8 in
+    let lists = words-given p n (s ∷ r ∷ []) lengths words in
     checker-theorem p n t1 t2 s r .1
-    (record {
-      prime = m .prime;
-      small = m .small;
-      degree = m .degree;
-      modulus1 = m .modulus1;
-      modulus2 = m .modulus2;
-      words-s = lists .0;
-      words-r = lists .1 .0;
-    })
+    (record { models = m; words-s = lists .0; words-r = lists .1 .0 })
     (congruences-accepted p t1 t2 s r (not-false (accepts p t1 t2 s r) accepted))
 
 paired-given : {p n : ℕ} {t1 t2 s r : List ℕ} → checkNumber p n t1 t2 s r ≡ 0 → Given p n t1 t2 s r
@@ -130,13 +113,16 @@ find-answers : {p n : ℕ} {t1 t2 : List ℕ} → Models p n t1 t2
 unfolding findNumber
 find-answers {p} {n} {t1} {t2} m h =
     let zeros : Words p n (replicate n 0) = zeros-words n (omega (arith, m .prime .0)) in
-    rw (
-      Refusal.given-prime p (m .prime) (m .small),
-      Refusal.given-degree n (m .degree .0) (m .degree .1),
-      Refusal.given-lengths p n (t1 ∷ t2 ∷ replicate n 0 ∷ replicate n 0 ∷ []) (m .modulus1, (m .modulus2, (zeros, (zeros, tt)))),
-      Refusal.given-words p n (t1 ∷ t2 ∷ []) (m .modulus1, (m .modulus2, tt)),
-    )
-    h
+    given-sent p n (t1 ∷ t2 ∷ replicate n 0 ∷ replicate n 0 ∷ []) (t1 ∷ t2 ∷ []) _
+    (record {
+      prime = m .prime;
+      small = m .small;
+      low = m .degree .0;
+      high = m .degree .1;
+      lengths = given-lengths p n (t1 ∷ t2 ∷ replicate n 0 ∷ replicate n 0 ∷ []) (m .modulus1, (m .modulus2, (zeros, (zeros, tt))));
+      words = given-words p n (t1 ∷ t2 ∷ []) (m .modulus1, (m .modulus2, tt));
+    })
+    ∙ h
 
 pub found-accepted : {p n : ℕ} {t1 t2 : List ℕ} → Models p n t1 t2
     → pairNumber p n t1 t2 ≡ 0

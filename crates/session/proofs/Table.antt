@@ -12,7 +12,8 @@ use borrow.Author.Tests.{not-false, eqb-true, eq-eqb, ltb-false, le-ltb}
 use Rattle.algebra.specs.Lists.{all}
 use Rattle.modular.specs.Refusal.{badLength, badWord}
 use Rattle.quotient.specs.Residue.{Words}
-use Rattle.quotient.proofs.Refusal as Refusal
+use Rattle.modular.proofs.Refusal.{refuse-none}
+use Rattle.quotient.proofs.Refusal.{words-given, given-words}
 use Rattle.session.specs.Session.{tableNumber}
 
 pub record Convertible (p n : ℕ) (table out : List ℕ) : Type 0 where
@@ -32,15 +33,15 @@ neither false b h = (refl, h)
 pub table-given : (p n : ℕ) (table out : List ℕ) → tableNumber p n table out ≡ 0 → Convertible p n table out
 unfolding tableNumber
 table-given p n table out h =
-    let (size, h10) = Refusal.refuse-none 8 (ltb 32768 (length table) || not (eqb (length table % n) 0)) _ h in
-    let (lengths, h4) = Refusal.refuse-none 9 (not (eqb (length out) (length table))) _ h10 in
-    let (words, end) = Refusal.refuse-none 3 (badWord p (table ∷ [])) 0 h4 in
+    let (size, h10) = refuse-none 8 (ltb 32768 (length table) || not (eqb (length table % n) 0)) _ h in
+    let (lengths, h4) = refuse-none 9 (not (eqb (length out) (length table))) _ h10 in
+    let (words, end) = refuse-none 3 (badWord p (table ∷ [])) 0 h4 in
     let (few, groups) = neither (ltb 32768 (length table)) (not (eqb (length table % n) 0)) size in
     record {
       few = ltb-false 32768 (length table) few;
       groups = eqb-true (length table % n) 0 (not-false (eqb (length table % n) 0) groups);
       lengths = eqb-true (length out) (length table) (not-false (eqb (length out) (length table)) lengths);
-      words = Refusal.words-given p (length table) (table ∷ []) (one-length table) words .0;
+      words = words-given p (length table) (table ∷ []) (one-length table) words .0;
     }
 
 pub given-table : {p n : ℕ} {table out : List ℕ} → Convertible p n table out → tableNumber p n table out ≡ 0
@@ -50,7 +51,7 @@ given-table {p} {n} {table} {out} h =
       le-ltb 32768 (length table) (h .few),
       eq-eqb (length table % n) 0 (h .groups),
       eq-eqb (length out) (length table) (h .lengths),
-      Refusal.given-words p (length table) (table ∷ []) (h .words, tt),
+      given-words p (length table) (table ∷ []) (h .words, tt),
     )
 
 -- the groups are as many as the length divided by n

@@ -14,7 +14,8 @@ use lib.Seq.{length-take-le}
 use Rattle.algebra.specs.Lists.{all}
 use Rattle.modular.specs.Refusal.{badPrime, badDegree, badLength, badWord, allBelow}
 use Rattle.quotient.specs.Residue.{Words}
-use Rattle.quotient.proofs.Refusal.{prime-given, degree-given, words-given}
+use Rattle.modular.proofs.Refusal.{prime-given, degree-given}
+use Rattle.quotient.proofs.Refusal.{words-given}
 use Rattle.session.specs.Session.{whole}
 
 module _ (p n : ℕ) (xss : List (List ℕ)) (h : whole p n xss ≡ true) where

@@ -1,5 +1,6 @@
 -- `refusal` meets its contract: the first condition that applies gives the number.
 use borrow.Author.Needs.{needs}
+use Rattle.residue.proofs.Refusals.{first-is}
 use Rattle.finder.proofs.FindAnswer.{refusal-is}
 use Rattle.finder.proofs.find.refusal.Statement.{statement}
 use Rattle.finder.proofs.find.refusal.Tie as tie
@@ -20,7 +21,7 @@ first-requires : tie.Need-first-requires
 first-requires c κs = search needs
 
 returns : tie.Need-returns
-returns c = search refusal-is
+returns c = refusal-is _ _ _ _ _ _ (search first-is)
 
 pub refusal-spec : {M : Type 1} → statement M
 refusal-spec =

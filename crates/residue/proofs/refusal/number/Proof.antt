@@ -1,6 +1,6 @@
 -- `number` meets its contract.
 use borrow.Author.Needs.{needs}
-use Rattle.residue.proofs.Refusals.{number-is}
+use Rattle.residue.proofs.Refusals.{first-is, number-is}
 use Rattle.residue.proofs.refusal.number.Statement.{statement}
 use Rattle.residue.proofs.refusal.number.Tie as tie
 
@@ -20,7 +20,7 @@ first-requires : tie.Need-first-requires
 first-requires c κs = search needs
 
 returns : tie.Need-returns
-returns c = search number-is
+returns c = number-is _ _ _ _ _ (search first-is)
 
 pub number-spec : {M : Type 1} → statement M
 number-spec =
