@@ -1,7 +1,7 @@
 -- An n-th root v of a constant modulo T: if v^n = a and n divides p − 1, then v^p = a^((p − 1)/n)·v, for every n. So v is an eigenvector of the p-th
 -- power with the eigenvalue ζ = a^((p − 1)/n), and no p-th power has to be worked out. If ζ has order n, then T has no divisor of degree
--- 1 to n − 1; and if the leading coefficient of v is 1, then v is α, and a is its constant.
---   Root p n t z v a      v is n words with the leading coefficient 1, v^n = a modulo T, and a^((p − 1)/n) = z modulo p
+-- 1 to n − 1; and if the first coefficient of v that is not zero is 1, then v is α, and a is its constant.
+--   Root p n t z v a      v is n words, the first that is not zero is 1, v^n = a modulo T, and a^((p − 1)/n) = z modulo p
 --   IsAlpha p n t z v a   what follows
 use mathlib.Core.Path.{_≡_, sym, ap, ap₂, _∙_}
 use mathlib.Core.Bool.{false}
@@ -14,13 +14,13 @@ use Rattle.algebra.specs.Prime.{Prime}
 use Rattle.algebra.specs.Ring.{CommutativeRing}
 use Rattle.algebra.specs.Ring as Ring
 use Rattle.algebra.proofs.RingLaws.{power-add, power-mul, power-one}
-use Rattle.finder.specs.Finder.{alpha, leading, powerConstant}
+use Rattle.finder.specs.Finder.{alpha, firstNonZero, powerConstant}
 use Rattle.finder.specs.Theorem.{Eigenvector}
 use Rattle.finder.proofs.Alpha.{alpha-unique, power-constant-is}
 use Rattle.finder.specs.System.{Independent}
 use Rattle.finder.proofs.Irreducible.{eigenvector-unique, kernel-independent}
 use Rattle.finder.proofs.KernelVector.{KernelVector, kernel-of-eigenvector}
-use Rattle.finder.proofs.Leading.{leading-constant-zero}
+use Rattle.finder.proofs.FirstNonZero.{firstNonZero-constant-zero}
 use Rattle.finder.proofs.NoDivisor.{no-divisor}
 use Rattle.finder.proofs.ResidueConstants.{power-numeral}
 use Rattle.finder.specs.Root.{OrderModulo}
@@ -35,15 +35,15 @@ use Rattle.quotient.proofs.Words.{to-length}
 
 pub record Root (p n : ℕ) (t : List ℕ) (z : ℕ) (v : List ℕ) (a : ℕ) : Type 0 where
   words : Words p n v
-  leading-is : leading v ≡ 1
+  firstNonZero-is : firstNonZero v ≡ 1
   power-is : power p t v n ≡ constant n a
   eigenvalue-is : a ^ ((p - 1) / n) % p ≡ z
 
 -- the tests, in the order of the fields
-pub root : {p n : ℕ} {t : List ℕ} {z : ℕ} {v : List ℕ} {a : ℕ} → badLength n (v ∷ []) ≡ false → badWord p (v ∷ []) ≡ false → leading v ≡ 1
+pub root : {p n : ℕ} {t : List ℕ} {z : ℕ} {v : List ℕ} {a : ℕ} → badLength n (v ∷ []) ≡ false → badWord p (v ∷ []) ≡ false → firstNonZero v ≡ 1
     → power p t v n ≡ constant n a → a ^ ((p - 1) / n) % p ≡ z → Root p n t z v a
-root {p} {n} {v = v} length-is words-are leading-is power-is eigenvalue-is =
-    record { words = words-given p n (v ∷ []) length-is words-are .0; leading-is = leading-is; power-is = power-is; eigenvalue-is = eigenvalue-is }
+root {p} {n} {v = v} length-is words-are firstNonZero-is power-is eigenvalue-is =
+    record { words = words-given p n (v ∷ []) length-is words-are .0; firstNonZero-is = firstNonZero-is; power-is = power-is; eigenvalue-is = eigenvalue-is }
 
 pub record IsAlpha (p n : ℕ) (t : List ℕ) (z : ℕ) (v : List ℕ) (a : ℕ) : Type 0 where
   pub irreducible : HasDivisor p t → ⊥
@@ -73,9 +73,9 @@ module _ {p n : ℕ} {t : List ℕ} (prime : Prime p) (wt : Words p (suc n) t) w
       let exponent : suc n * ((p - 1) / suc n) + 1 ≡ p = omega (arith, div-add-mod' (p - 1) (suc n), prime .0) in
       record {
         words = to-length wt (h .words);
-        not-zero = λ e. let o : _≡_ {A = ℕ} 1 0 = sym (h .leading-is) ∙ ap leading e ∙ leading-constant-zero (length t) in omega arith;
+        not-zero = λ e. let o : _≡_ {A = ℕ} 1 0 = sym (h .firstNonZero-is) ∙ ap firstNonZero e ∙ firstNonZero-constant-zero (length t) in omega arith;
         power-is = ap (power p t v) (sym exponent) ∙ root-power (v, h .words) a ((p - 1) / suc n) z (h .power-is) (h .eigenvalue-is);
-        leading-is = h .leading-is;
+        firstNonZero-is = h .firstNonZero-is;
       }
 
   pub root-is-alpha : (p - 1) % suc n ≡ 0 → {z : ℕ} → OrderModulo p (suc n) z → {v : List ℕ} {a : ℕ} → Root p (suc n) t z v a

@@ -1,5 +1,5 @@
--- The search for α finds the one eigenvector modulo a T without proper divisors: every vector v ≠ 0 with v^p = ζ·v, divided by its leading
--- coefficient. Its n-th power is the constant a.
+-- The search for α finds the one eigenvector modulo a T without proper divisors: every vector v ≠ 0 with v^p = ζ·v, divided by its first
+-- coefficient that is not zero. Its n-th power is the constant a.
 use mathlib.Core.Path.{_≡_, refl, sym, ap, _∙_, subst}
 use mathlib.Core.Bool.{Bool, true, false, not, _&&_, and-eq-true-iff, true≢false}
 use mathlib.Core.List.{List}
@@ -15,13 +15,13 @@ use Rattle.quotient.specs.Divisor.{HasDivisor}
 use Rattle.quotient.specs.Residue.{Words, residues, scale, constant, power}
 use Rattle.quotient.proofs.Listing.{residues-complete, residues-sound}
 use Rattle.quotient.proofs.Words.{words-length}
-use Rattle.finder.specs.Finder.{alpha, firstResidue, leading, powerConstant}
+use Rattle.finder.specs.Finder.{alpha, firstResidue, firstNonZero, powerConstant}
 use Rattle.finder.specs.Theorem.{Eigenvector}
 use Rattle.finder.specs.Root.{OrderModulo}
 use Rattle.finder.specs.System.{Independent}
 use Rattle.finder.proofs.Irreducible.{kernel-vector-exists, power-is-constant, kernel-independent, eigenvector-unique}
 use Rattle.finder.proofs.KernelVector.{KernelVector, kernel-of-eigenvector, normalised-eigenvector}
-use Rattle.finder.proofs.Leading.{normalised}
+use Rattle.finder.proofs.FirstNonZero.{normalised}
 
 -- a test that cannot be true is false
 pub test-fails : (b : Bool) → (b ≡ true → ⊥) → b ≡ false
@@ -30,27 +30,27 @@ test-fails false h = refl
 
 module _ (p : ℕ) (t : List ℕ) (z : ℕ) where
   abbrev test : List ℕ → Bool
-  test a = not (equal a (constant (length t) 0)) && equal (power p t a p) (scale p z a) && eqb (leading a) 1
+  test a = not (equal a (constant (length t) 0)) && equal (power p t a p) (scale p z a) && eqb (firstNonZero a) 1
 
   test-sound : (a : List ℕ) → Words p (length t) a → test a ≡ true → Eigenvector p t z a
   test-sound a w h =
-      let outer = and-eq-true-iff (not (equal a (constant (length t) 0)) && equal (power p t a p) (scale p z a)) (eqb (leading a) 1) .0 h in
+      let outer = and-eq-true-iff (not (equal a (constant (length t) 0)) && equal (power p t a p) (scale p z a)) (eqb (firstNonZero a) 1) .0 h in
       let inner = and-eq-true-iff (not (equal a (constant (length t) 0))) (equal (power p t a p) (scale p z a)) .0 (outer .0) in
       record {
         words = w;
         not-zero = λ e. true≢false (sym (equal-of e) ∙ not-true (equal a (constant (length t) 0)) (inner .0));
         power-is = of-equal _ _ (inner .1);
-        leading-is = eqb-true (leading a) 1 (outer .1);
+        firstNonZero-is = eqb-true (firstNonZero a) 1 (outer .1);
       }
 
   test-complete : (a : List ℕ) → Eigenvector p t z a → test a ≡ true
   test-complete a h =
-      and-eq-true-iff (not (equal a (constant (length t) 0)) && equal (power p t a p) (scale p z a)) (eqb (leading a) 1) .1 (
+      and-eq-true-iff (not (equal a (constant (length t) 0)) && equal (power p t a p) (scale p z a)) (eqb (firstNonZero a) 1) .1 (
         and-eq-true-iff (not (equal a (constant (length t) 0))) (equal (power p t a p) (scale p z a)) .1 (
           ap not (test-fails (equal a (constant (length t) 0)) (λ e. h .not-zero (of-equal _ _ e))),
           equal-of (h .power-is),
         ),
-        eq-eqb (leading a) 1 (h .leading-is),
+        eq-eqb (firstNonZero a) 1 (h .firstNonZero-is),
       )
 
   pub alpha-unique : (a : List ℕ) → Eigenvector p t z a → ((b : List ℕ) → Eigenvector p t z b → b ≡ a) → alpha p t z ≡ a

@@ -19,14 +19,14 @@ use Rattle.quotient.proofs.Reduction.{characteristic, scale-is}
 use Rattle.quotient.proofs.Ring.{residueRing}
 use Rattle.quotient.proofs.Substitution.{substitute-is}
 use Rattle.quotient.proofs.Words.{residue-path}
-use Rattle.finder.specs.Finder.{leading}
+use Rattle.finder.specs.Finder.{firstNonZero}
 use Rattle.finder.specs.Theorem.{Eigenvector}
 use Rattle.finder.specs.Root.{OrderModulo}
 use Rattle.finder.specs.System.{Independent}
 use Rattle.finder.proofs.Eigenvector.{Eigen, eigen-exists, eigen-multiple, eigen-constant, eigen-constant-root}
 use Rattle.finder.proofs.Independence.{evaluate-injective}
 use Rattle.finder.proofs.KernelVector.{KernelVector, eigen-of-kernel, kernel-of-eigen, kernel-of-eigenvector}
-use Rattle.finder.proofs.Leading.{leading-scale}
+use Rattle.finder.proofs.FirstNonZero.{firstNonZero-scale}
 use Rattle.finder.proofs.ResidueConstants.{ring-proper, fixed-constant, constant-power-is, power-numeral}
 use Rattle.finder.proofs.Zeta.{constant-order, power-modulo}
 
@@ -86,7 +86,7 @@ module _ {p n : ℕ} {t : List ℕ} (prime : Prime p) (wt : Words p (suc n) t) (
           evaluate-injective F p prime vanishes ζ α (fixed-constant prime wt z) eigen (suc n) order-is wf wg
           (residue-path (sym (substitute-is (prime .0) wt α f) ∙ e ∙ substitute-is (prime .0) wt α g))
 
-  -- an eigenvector is a multiple c·a of another; both have the leading coefficient 1, so c = 1
+  -- an eigenvector is a multiple c·a of another; the first coefficient that is not zero is 1 in both, so c = 1
   pub eigenvector-unique : (z : ℕ) (a b : List ℕ) → Eigenvector p t z a → Eigenvector p t z b → b ≡ a
   unfolding residueField
   eigenvector-unique z a b ha hb =
@@ -97,6 +97,6 @@ module _ {p n : ℕ} {t : List ℕ} (prime : Prime p) (wt : Words p (suc n) t) (
       eigen-multiple F p prime vanishes (numeral K z) α (eigen-of-kernel (prime .0) wt z ka) (b, kb .words) (eigen-of-kernel (prime .0) wt z kb) in
       let multiple : b ≡ scale p c a = ap (λ u. u .0) e ∙ scale-is (prime .0) wt c α in
       let one : c ≡ 1 =
-      sym (mod-eq-of-lt below) ∙ ap (λ x. x % p) (sym (mul-one c)) ∙ ap (λ x. c * x % p) (sym (ha .leading-is)) ∙ sym (leading-scale prime pos below (ka .words))
-      ∙ ap leading (sym multiple) ∙ hb .leading-is in
+      sym (mod-eq-of-lt below) ∙ ap (λ x. x % p) (sym (mul-one c)) ∙ ap (λ x. c * x % p) (sym (ha .firstNonZero-is)) ∙ sym (firstNonZero-scale prime pos below (ka .words))
+      ∙ ap firstNonZero (sym multiple) ∙ hb .firstNonZero-is in
       ap (λ u. u .0) (e ∙ ap (λ x. K .mul (numeral K x) α) one ∙ ap (λ x. K .mul x α) (numeral-one K) ∙ one-mul K α)

@@ -14,10 +14,10 @@ use Rattle.quotient.proofs.Frobenius.{frobenius-scale}
 use Rattle.quotient.proofs.Reduction.{zero-is, scale-is}
 use Rattle.quotient.proofs.Ring.{residueRing, power-is}
 use Rattle.quotient.proofs.Words.{words-length, to-length, of-length, residue-path, scale-words}
-use Rattle.finder.specs.Finder.{leading}
+use Rattle.finder.specs.Finder.{firstNonZero}
 use Rattle.finder.specs.Theorem.{Eigenvector}
 use Rattle.finder.proofs.Eigenvector.{Eigen}
-use Rattle.finder.proofs.Leading.{normalised, leading-normalised, leading-constant-zero}
+use Rattle.finder.proofs.FirstNonZero.{normalised, firstNonZero-normalised, firstNonZero-constant-zero}
 
 pub record KernelVector (p n : ℕ) (t : List ℕ) (z : ℕ) (v : List ℕ) : Type 0 where
   pub words : Words p n v
@@ -57,10 +57,10 @@ unfolding normalised
 normalised-eigenvector {p} {n} {t} {v} {z} prime wt h =
     record {
       words = to-length wt (scale-words _ (h .words));
-      not-zero = λ e. let o : _≡_ {A = ℕ} 1 0 = sym one ∙ ap leading e ∙ leading-constant-zero (length t) in omega arith;
+      not-zero = λ e. let o : _≡_ {A = ℕ} 1 0 = sym one ∙ ap firstNonZero e ∙ firstNonZero-constant-zero (length t) in omega arith;
       power-is = frobenius-scale prime wt _ (v, h .words) ∙ ap (scale p _) (h .power-is) ∙ scale-swap (prime .0) wt z _ (v, h .words);
-      leading-is = one;
+      firstNonZero-is = one;
     }
   where
-    one : leading (normalised p v) ≡ 1
-    one = leading-normalised prime (h .words) (h .not-zero)
+    one : firstNonZero (normalised p v) ≡ 1
+    one = firstNonZero-normalised prime (h .words) (h .not-zero)

@@ -7,7 +7,7 @@ pub mod Smallest
 pub mod Zeta
 pub mod Express
 pub mod Transfer
-pub mod Leading
+pub mod FirstNonZero
 pub mod KernelVector
 pub mod ResidueConstants
 pub mod Irreducible

@@ -24,7 +24,7 @@ use Rattle.finder.proofs.Alpha.{test-fails, alpha-normalised, alpha-ker
 use Rattle.finder.proofs.ChosenPair.{ratio-found, chosen-words, chosen-independent, found-chosen}
 use Rattle.finder.proofs.Irreducible.{kernel-vector-exists, power-is-constant}
 use Rattle.finder.proofs.KernelVector.{KernelVector}
-use Rattle.finder.proofs.Leading.{normalised}
+use Rattle.finder.proofs.FirstNonZero.{normalised}
 use Rattle.finder.proofs.NoDivisor.{constant-positive, no-divisor}
 use Rattle.finder.proofs.ResidueConstants.{constant-is-word}
 

@@ -1,6 +1,6 @@
 -- The loops of `vector`: the words of c·u one after another, the search for the first word that is not 0, and the test for constants.
 --   scaledWord p c u k   word k of c·u
---   Leading n u i        no word of u before word i is different from 0
+--   ZerosBefore n u i    no word of u before word i is different from 0
 --   Constant n u i       no word of u from word 1 to word i − 1 is different from 0
 use mathlib.Core.Path.{_≡_, refl, sym, ap, ap₂, _∙_}
 use mathlib.Core.Bool.{true, false, false≢true, true≢false}
@@ -18,9 +18,9 @@ use Rattle.quotient.proofs.Words.{words-length, constant-words}
 use Rattle.quotient.specs.Array.{padded, Holds}
 use Rattle.quotient.proofs.Padded.{holds-word, array-fits, padded-zeros, take-zeros, painted-array}
 use Rattle.quotient.proofs.Painted.{painted, table, painted-next}
-use Rattle.finder.specs.Finder.{leading}
+use Rattle.finder.specs.Finder.{firstNonZero}
 use Rattle.finder.specs.Root.{Decides}
-use Rattle.finder.proofs.Leading.{leading-zero, leading-nonzero, leading-nil, leading-positive, leading-below}
+use Rattle.finder.proofs.FirstNonZero.{firstNonZero-zero, firstNonZero-nonzero, firstNonZero-nil, firstNonZero-positive, firstNonZero-below}
 
 unfoldable pub scaledWord : ℕ → ℕ → List ℕ → ℕ → ℕ
 scaledWord p c u k = c * getD u k 0 % p
@@ -45,41 +45,41 @@ scale-done p c n i u w short h l l′ e =
     ∙ painted-array n (scaledWord p c u) (replicate 16 0) short (padded-zeros n short ∙ ap padded (sym (take-zeros n short)))
     ∙ ap padded (table-scaled p c n u (array-fits n u short (h .zeros)))
 
-pub record Leading (n : ℕ) (u : List ℕ) (i : ℕ) : Type 0 where
+pub record ZerosBefore (n : ℕ) (u : List ℕ) (i : ℕ) : Type 0 where
   pub to : i ≤ n
-  pub rest : leading (take n u) ≡ leading (drop i (take n u))
+  pub rest : firstNonZero (take n u) ≡ firstNonZero (drop i (take n u))
 
 module _ (p n : ℕ) (u : List ℕ) where
-  pub leading-start : Leading n u 0
-  leading-start = record { to = omega arith; rest = refl }
+  pub firstNonZero-start : ZerosBefore n u 0
+  firstNonZero-start = record { to = omega arith; rest = refl }
 
-  module _ (short : n ≤ 16) (h : Holds p n u) (i : ℕ) (l : Leading n u i) where
+  module _ (short : n ≤ 16) (h : Holds p n u) (i : ℕ) (l : ZerosBefore n u i) where
     split : i < n → drop i (take n u) ≡ getD u i 0 ∷ drop (suc i) (take n u)
     split less = drop-cons (take n u) i 0 (omega (arith, words-length (h .words))) ∙ ap (λ a. a ∷ drop (suc i) (take n u)) (getD-take n u i 0 less)
 
-    pub leading-turn : i < n → getD u i 0 ≡ 0 → Leading n u (i + 1)
-    leading-turn less e =
+    pub firstNonZero-turn : i < n → getD u i 0 ≡ 0 → ZerosBefore n u (i + 1)
+    firstNonZero-turn less e =
         record {
           to = omega arith;
-          rest = l .rest ∙ ap leading (split less) ∙ leading-zero (getD u i 0) (drop (suc i) (take n u)) e ∙ ap (λ k. leading (drop k (take n u))) (sym (add-one i));
+          rest = l .rest ∙ ap firstNonZero (split less) ∙ firstNonZero-zero (getD u i 0) (drop (suc i) (take n u)) e ∙ ap (λ k. firstNonZero (drop k (take n u))) (sym (add-one i));
         }
 
-    pub leading-found : i < n → (getD u i 0 ≡ 0 → ⊥) → getD u i 0 ≡ leading (take n u)
-    leading-found less other = sym (l .rest ∙ ap leading (split less) ∙ leading-nonzero (getD u i 0) (drop (suc i) (take n u)) other)
+    pub firstNonZero-found : i < n → (getD u i 0 ≡ 0 → ⊥) → getD u i 0 ≡ firstNonZero (take n u)
+    firstNonZero-found less other = sym (l .rest ∙ ap firstNonZero (split less) ∙ firstNonZero-nonzero (getD u i 0) (drop (suc i) (take n u)) other)
 
-    pub leading-none : n ≤ i → 0 ≡ leading (take n u)
-    leading-none all =
+    pub firstNonZero-none : n ≤ i → 0 ≡ firstNonZero (take n u)
+    firstNonZero-none all =
         let past : length (take n u) ≤ i = omega (arith, words-length (h .words)) in
-        sym (l .rest ∙ ap leading (drop-of-length-le (take n u) past) ∙ leading-nil)
+        sym (l .rest ∙ ap firstNonZero (drop-of-length-le (take n u) past) ∙ firstNonZero-nil)
 
   -- what the inverse requires
-  pub leading-positive-word : Holds p n u → (take n u ≡ constant n 0 → ⊥) → (a : ℕ) → a ≡ leading (take n u) → 0 < a
-  leading-positive-word h other a e = rw e (leading-positive (h .words) other)
+  pub firstNonZero-positive-word : Holds p n u → (take n u ≡ constant n 0 → ⊥) → (a : ℕ) → a ≡ firstNonZero (take n u) → 0 < a
+  firstNonZero-positive-word h other a e = rw e (firstNonZero-positive (h .words) other)
 
-  pub leading-small-word : Prime p → Holds p n u → (a : ℕ) → a ≡ leading (take n u) → a < p
-  leading-small-word prime h a e = rw e (leading-below (omega arith) (h .words))
+  pub firstNonZero-small-word : Prime p → Holds p n u → (a : ℕ) → a ≡ firstNonZero (take n u) → a < p
+  firstNonZero-small-word prime h a e = rw e (firstNonZero-below (omega arith) (h .words))
 
-pub normalised-is : (p i a : ℕ) (u r : List ℕ) → a ≡ leading u → i ≡ inverse p a → r ≡ padded (scale p i u) → r ≡ padded (scale p (inverse p (leading u)) u)
+pub normalised-is : (p i a : ℕ) (u r : List ℕ) → a ≡ firstNonZero u → i ≡ inverse p a → r ≡ padded (scale p i u) → r ≡ padded (scale p (inverse p (firstNonZero u)) u)
 normalised-is p i a u r ea ei er = er ∙ ap (λ k. padded (scale p k u)) (ei ∙ ap (inverse p) ea)
 
 pub record Constant (n : ℕ) (u : List ℕ) (i : ℕ) : Type 0 where

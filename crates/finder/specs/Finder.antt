@@ -1,5 +1,6 @@
 -- The finder's values (document 01, "The finder"), each by search over what its sentence ranges over, in the order of the document.
 --   zeta p n            the smallest integer from 1 to p − 1 with ζ^n = 1 mod p and no ζ^m = 1 for 1 ≤ m < n
+--   firstNonZero u      the first coefficient that is not zero, counted from the constant; 0 where there is none
 --   alpha p t z         not zero, α^p = ζ·α modulo T, and its first coefficient that is not zero is 1
 --   powerConstant p t a the constant coefficient of a^n modulo T; α^n has no other
 --   ratio p n a1 a2     c, the smallest integer from 1 to p − 1 with c^n·a2 = a1 mod p
@@ -21,10 +22,9 @@ use Rattle.quotient.specs.Residue.{residues, scale, constant, power, residueOfX
 unfoldable pub zeta : ℕ → ℕ → ℕ
 zeta p n = first (λ z. eqb (z ^ n % p) 1 && all (λ m. not (eqb (z ^ m % p) 1)) (range 1 (n - 1))) 0 (range 1 (p - 1))
 
--- the first coefficient that is not zero, counted from the constant; 0 where there is none
-unfoldable pub leading : List ℕ → ℕ
-leading [] = 0
-leading (a ∷ u) = elim (eqb a 0) [ true ↦ leading u | false ↦ a ]
+unfoldable pub firstNonZero : List ℕ → ℕ
+firstNonZero [] = 0
+firstNonZero (a ∷ u) = elim (eqb a 0) [ true ↦ firstNonZero u | false ↦ a ]
 
 -- the first residue modulo T that passes a test; 0 where none does
 unfoldable pub firstResidue : ℕ → List ℕ → (List ℕ → Bool) → List ℕ
@@ -32,7 +32,7 @@ firstResidue p t test = first test (constant (length t) 0) (residues p (length t
 
 unfoldable pub alpha : ℕ → List ℕ → ℕ → List ℕ
 alpha p t z =
-    firstResidue p t (λ a. not (equal a (constant (length t) 0)) && equal (power p t a p) (scale p z a) && eqb (leading a) 1)
+    firstResidue p t (λ a. not (equal a (constant (length t) 0)) && equal (power p t a p) (scale p z a) && eqb (firstNonZero a) 1)
 
 unfoldable pub powerConstant : ℕ → List ℕ → List ℕ → ℕ
 powerConstant p t a = getD (power p t a (length t)) 0 0

@@ -17,7 +17,7 @@ use Rattle.pair.specs.Pair.{checkNumber}
 use Rattle.pair.specs.Theorem.{Models, Isomorphisms}
 use Rattle.quotient.specs.Divisor.{HasDivisor}
 use Rattle.quotient.specs.Residue.{Words, scale, constant, power, residueOfX, substitute}
-use Rattle.finder.specs.Finder.{leading, findNumber, findOutputS, findOutputR}
+use Rattle.finder.specs.Finder.{firstNonZero, findNumber, findOutputS, findOutputR}
 
 abbrev pub Smallest : (ℕ → Type 0) → ℕ → ℕ → Type 0
 Smallest P p k = (1 ≤ k) × (k < p) × P k × ((j : ℕ) → 1 ≤ j → j < k → P j → ⊥)
@@ -26,7 +26,7 @@ pub record Eigenvector (p : ℕ) (t : List ℕ) (z : ℕ) (a : List ℕ) : Type 
   pub words : Words p (length t) a
   pub not-zero : a ≡ constant (length t) 0 → ⊥
   pub power-is : power p t a p ≡ scale p z a
-  pub leading-is : leading a ≡ 1
+  pub firstNonZero-is : firstNonZero a ≡ 1
 
 pub record ChosenPair (p n : ℕ) (t1 t2 s r : List ℕ) : Type 0 where
   pub z : ℕ

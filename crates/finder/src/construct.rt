@@ -2,7 +2,7 @@
 ghost use mathlib.Core.Bool.{true};
 ghost use mathlib.Core.Path.{_≡_};
 ghost use Prim.Native.Nat.{_^_, _≤_, _<_};
-ghost use lib.ListN.{take};
+ghost use lib.ListN.{length, take};
 ghost use Rattle.algebra.specs.Prime.{Prime};
 ghost use Rattle.quotient.specs.Array.{padded, Holds};
 ghost use Rattle.finder.specs.Construct.{Choices, FoundPair};
@@ -26,13 +26,16 @@ fn forward(
     t2: &[u64; 16],
     alpha1: &[u64; 16],
     alpha2: &[u64; 16],
+    m: &mut [u64; 256],
 ) -> [u64; 16]
     requires { ⌜ Admissible p n ⌝ }
     requires { ⌜ Holds p n (now t1) × Holds p n (now t2) ⌝ }
+    requires { ⌜ length (now m) ≡ 256 ⌝ }
     requires { ⌜ Choices p n (take n (now t1)) (take n (now t2)) c (now alpha1) (now alpha2) ⌝ }
     ensures { λ s. ⌜ s ≡ padded (findS p n (take n (now (t1 .entry))) (take n (now (t2 .entry)))) ⌝ }
+    ensures { λ _. ⌜ length (now (m .exit)) ≡ 256 ⌝ }
 {
-    let p1 = express(p, n, t1, alpha1);
+    let p1 = express(p, n, t1, alpha1, m);
     let gamma = scale(p, n, c, alpha2);
     substitute(p, n, t2, &gamma, &p1)
 }
@@ -53,10 +56,12 @@ fn pair(
     t2: &[u64; 16],
     first: Alpha,
     second: Alpha,
+    m: &mut [u64; 256],
 ) -> Found
     requires { ⌜ Admissible p n ⌝ }
     requires { ⌜ (z < p) × (z ≡ zetaOf p n) ⌝ }
     requires { ⌜ Holds p n (now t1) × Holds p n (now t2) ⌝ }
+    requires { ⌜ length (now m) ≡ 256 ⌝ }
     requires { ⌜ Answer p n (take n (now t1)) z true (first .vector) (first .constant) ⌝ }
     requires { ⌜ Answer p n (take n (now t2)) z true (second .vector) (second .constant) ⌝ }
     ensures { λ r. ⌜ FoundPair p n (take n (now (t1 .entry))) (take n (now (t2 .entry))) (r .number) (r .forward) (r .backward) ⌝ }
@@ -64,11 +69,11 @@ fn pair(
     let c = ratio(p, n as u64, z, first.constant, second.constant);
     let alpha1 = first.vector;
     let alpha2 = second.vector;
-    let s = forward(p, n, c, t1, t2, &alpha1, &alpha2);
+    let s = forward(p, n, c, t1, t2, &alpha1, &alpha2, m);
     Found {
         number: 0,
         forward: s,
-        backward: express(p, n, t2, &s),
+        backward: express(p, n, t2, &s, m),
     }
 }
 
@@ -83,22 +88,23 @@ fn refusal(number: u32) -> Found
     }
 }
 
-// S and R for the two models, or the refusal of a modulus with a monic divisor of degree 1 to n − 1.
+// S and R for the two models, or the refusal of a modulus with a monic divisor of degree 1 to n − 1. One array serves the four systems.
 fn construct(p: u64, n: usize, t1: &[u64; 16], t2: &[u64; 16]) -> Found
     requires { ⌜ Admissible p n ⌝ }
     requires { ⌜ Holds p n (now t1) × Holds p n (now t2) ⌝ }
     ensures { λ r. ⌜ FoundPair p n (take n (now (t1 .entry))) (take n (now (t2 .entry))) (r .number) (r .forward) (r .backward) ⌝ }
 {
+    let mut m = [0; 256];
     let z = zeta(p, n as u64);
-    let first = eigenvector(p, n, z, t1);
+    let first = eigenvector(p, n, z, t1, &mut m);
     if !first.found {
         return refusal(6);
     }
-    let second = eigenvector(p, n, z, t2);
+    let second = eigenvector(p, n, z, t2, &mut m);
     if !second.found {
         return refusal(7);
     }
-    pair(p, n, z, t1, t2, first, second)
+    pair(p, n, z, t1, t2, first, second, &mut m)
 }
 
 // The same where n need not divide p − 1.

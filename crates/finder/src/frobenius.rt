@@ -1,46 +1,48 @@
 // The eigenvector α of the p-th power, α^p = ζ·α modulo T, by the kernel of the linear map u ↦ u^p − ζ·u. It also decides whether T has a monic
 // divisor of degree 1 to n − 1: exactly then there is no such vector, or its n-th power is not a constant.
+ghost use mathlib.Core.Bool.{false};
+ghost use mathlib.Core.Path.{_≡_};
 ghost use Prim.Native.Nat.{_^_, _≤_, _<_};
-ghost use lib.ListN.{take};
+ghost use lib.ListN.{length, take};
 ghost use Rattle.algebra.specs.Prime.{Prime};
 ghost use Rattle.quotient.specs.Array.{Square, Holds};
 ghost use Rattle.finder.specs.Kernel.{Shifted, Kernel, Answer};
 ghost use Rattle.finder.specs.Root.{Admissible, OrderModulo};
-use crate::system::columns;
 use crate::vector::is_constant;
 use crate::vector::normalise;
 use linear::system::Solution;
 use linear::system::solve;
 use modular::word::sub;
+use residue::matrix::powers;
 use residue::ring::power;
 use residue::ring::power_of_x;
-use residue::table::powers;
 
-// The matrix m − z.
-fn minus(p: u64, n: usize, z: u64, m: [u64; 256]) -> [u64; 256]
+// Makes the matrix m the matrix m − z.
+fn minus(p: u64, n: usize, z: u64, m: &mut [u64; 256])
     requires { ⌜ (p ≤ 2 ^ 20) × (n ≤ 16) × (z < p) ⌝ }
-    requires { ⌜ Square p n m ⌝ }
-    ensures { λ r. ⌜ Shifted p n z m r ⌝ }
+    requires { ⌜ Square p n (now m) ⌝ }
+    ensures { λ _. ⌜ Shifted p n z (now (m .entry)) (now (m .exit)) ⌝ }
 {
-    let mut r = m;
     let mut i = 0;
     while i < n {
         let k = 16 * i + i;
-        r[k] = sub(p, r[k], z);
+        m[k] = sub(p, m[k], z);
         i += 1;
     }
-    r
 }
 
-// The kernel of u ↦ u^p − z·u: u^p is u(X^p), so the powers of X^p are the columns of u ↦ u^p.
-fn kernel(p: u64, n: usize, z: u64, t: &[u64; 16]) -> Solution
+// The kernel of u ↦ u^p − z·u: u^p is u(X^p), so the powers of X^p are the columns of u ↦ u^p. The system is written into the array m.
+fn kernel(p: u64, n: usize, z: u64, t: &[u64; 16], m: &mut [u64; 256]) -> Solution
     requires { ⌜ Prime p ⌝ }
     requires { ⌜ (p ≤ 2 ^ 20) × (1 ≤ n) × (n ≤ 16) × (z < p) ⌝ }
     requires { ⌜ Holds p n (now t) ⌝ }
+    requires { ⌜ length (now m) ≡ 256 ⌝ }
     ensures { λ r. ⌜ Kernel p n (take n (now (t .entry))) z (r .regular) (r .vector) ⌝ }
+    ensures { λ _. ⌜ length (now (m .exit)) ≡ 256 ⌝ }
 {
     let x = power_of_x(p, n, t);
-    let m = minus(p, n, z, columns(n, &powers(p, n, t, &x)));
+    powers(p, n, t, &x, m);
+    minus(p, n, z, m);
     solve(p, n, m, [0; 16])
 }
 
@@ -51,13 +53,32 @@ pub struct Alpha {
     pub constant: u64,
 }
 
-pub fn eigenvector(p: u64, n: usize, z: u64, t: &[u64; 16]) -> Alpha
+// The same from a vector v ≠ 0 of the kernel: divided by its first word that is not 0 it is α, if its n-th power is a constant.
+fn from_kernel(p: u64, n: usize, z: u64, t: &[u64; 16], v: &[u64; 16]) -> Alpha
     requires { ⌜ Admissible p n ⌝ }
     requires { ⌜ (z < p) × OrderModulo p n z ⌝ }
     requires { ⌜ Holds p n (now t) ⌝ }
+    requires { ⌜ Kernel p n (take n (now t)) z false (now v) ⌝ }
     ensures { λ r. ⌜ Answer p n (take n (now (t .entry))) z (r .found) (r .vector) (r .constant) ⌝ }
 {
-    let answer = kernel(p, n, z, t);
+    let alpha = normalise(p, n, v);
+    let power = power(p, n, t, &alpha, n as u64);
+    Alpha {
+        found: is_constant(p, n, &power),
+        vector: alpha,
+        constant: power[0],
+    }
+}
+
+pub fn eigenvector(p: u64, n: usize, z: u64, t: &[u64; 16], m: &mut [u64; 256]) -> Alpha
+    requires { ⌜ Admissible p n ⌝ }
+    requires { ⌜ (z < p) × OrderModulo p n z ⌝ }
+    requires { ⌜ Holds p n (now t) ⌝ }
+    requires { ⌜ length (now m) ≡ 256 ⌝ }
+    ensures { λ r. ⌜ Answer p n (take n (now (t .entry))) z (r .found) (r .vector) (r .constant) ⌝ }
+    ensures { λ _. ⌜ length (now (m .exit)) ≡ 256 ⌝ }
+{
+    let answer = kernel(p, n, z, t, m);
     if answer.regular {
         return Alpha {
             found: false,
@@ -66,11 +87,5 @@ pub fn eigenvector(p: u64, n: usize, z: u64, t: &[u64; 16]) -> Alpha
         };
     }
     let v = answer.vector;
-    let alpha = normalise(p, n, &v);
-    let power = power(p, n, t, &alpha, n as u64);
-    Alpha {
-        found: is_constant(p, n, &power),
-        vector: alpha,
-        constant: power[0],
-    }
+    from_kernel(p, n, z, t, &v)
 }

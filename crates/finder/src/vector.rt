@@ -6,7 +6,7 @@ ghost use Rattle.algebra.specs.Prime.{Prime};
 ghost use Rattle.modular.specs.Inverse.{inverse as inverseOf};
 ghost use Rattle.quotient.specs.Residue.{scale as scaleOf, constant};
 ghost use Rattle.quotient.specs.Array.{padded, Holds};
-ghost use Rattle.finder.specs.Finder.{leading as leadingOf};
+ghost use Rattle.finder.specs.Finder.{firstNonZero};
 ghost use Rattle.finder.specs.Root.{Decides};
 use modular::word::inverse;
 use modular::word::mul;
@@ -27,10 +27,10 @@ pub fn scale(p: u64, n: usize, c: u64, u: &[u64; 16]) -> [u64; 16]
 }
 
 // The first word that is not 0, and 0 where there is none.
-fn leading(p: u64, n: usize, u: &[u64; 16]) -> u64
+fn first_non_zero(p: u64, n: usize, u: &[u64; 16]) -> u64
     requires { ⌜ n ≤ 16 ⌝ }
     requires { ⌜ Holds p n (now u) ⌝ }
-    ensures { λ r. ⌜ r ≡ leadingOf (take n (now (u .entry))) ⌝ }
+    ensures { λ r. ⌜ r ≡ firstNonZero (take n (now (u .entry))) ⌝ }
 {
     let mut i = 0;
     while i < n {
@@ -48,9 +48,9 @@ pub fn normalise(p: u64, n: usize, u: &[u64; 16]) -> [u64; 16]
     requires { ⌜ (p ≤ 2 ^ 20) × (n ≤ 16) ⌝ }
     requires { ⌜ Holds p n (now u) ⌝ }
     requires { ⌜ (take n (now u) ≡ constant n 0 → ⊥) ⌝ }
-    ensures { λ r. ⌜ r ≡ padded (scaleOf p (inverseOf p (leadingOf (take n (now (u .entry))))) (take n (now (u .entry)))) ⌝ }
+    ensures { λ r. ⌜ r ≡ padded (scaleOf p (inverseOf p (firstNonZero (take n (now (u .entry))))) (take n (now (u .entry)))) ⌝ }
 {
-    scale(p, n, inverse(p, leading(p, n, u)), u)
+    scale(p, n, inverse(p, first_non_zero(p, n, u)), u)
 }
 
 // Whether u is a constant: every word after the first is 0.

@@ -10,9 +10,11 @@ use lib.Seq.{getD-take}
 use Rattle.quotient.specs.Residue.{Words}
 use Rattle.linear.proofs.Pivoting.{equivalent-refl, equivalent-trans}
 use Rattle.linear.proofs.Sum.{product-single}
-use Rattle.linear.proofs.Vectors.{words-length, words-below, words-same, words-zero, zero-beyond, vector-words, vector-size, vector-below, vector-zeros}
-use Rattle.quotient.specs.Array.{rowProduct, Square}
-use Rattle.linear.specs.System.{Solves, Vector, Regular, Singular, Outcome}
+use Rattle.linear.proofs.Vectors.{zero-beyond, holds-of, holds-past}
+use Rattle.quotient.specs.Array.{rowProduct, Holds, Square}
+use Rattle.quotient.proofs.Words.{words-length, words-same, zeros-words}
+use Rattle.quotient.proofs.Padded.{array-length, words-at, holds-word}
+use Rattle.linear.specs.System.{Solves, Regular, Singular, Outcome}
 use Rattle.linear.specs.Elimination.{Modulus, Identity, Reduced, SolvesTimes, Equivalent, Advanced, Pivot}
 
 nothing : (x : ℕ) → 0 * x ≡ 0
@@ -28,8 +30,8 @@ module _ (p n k : ℕ) (m b m' b' : List ℕ) (positive : 0 < p) (small : n ≤ 
   identity : Identity p n n m'
   identity = let e : k ≡ n = omega arith in subst (λ z. Identity p n z m') e (R .matrix)
 
-  pub solution-vector : Vector p n b'
-  solution-vector = vector-words p n b' small (R .size) (R .below) (R .zeros)
+  pub solution-holds : Holds p n b'
+  solution-holds = holds-of p n b' small (R .size) (R .below) (R .zeros)
 
   times-one : (x : ℕ) → (1 * x) % p ≡ x % p
   times-one x = ap (λ z. z % p) (omega arith)
@@ -40,12 +42,12 @@ module _ (p n k : ℕ) (m b m' b' : List ℕ) (positive : 0 < p) (small : n ≤ 
       ∙ times-one (getD b i 0)
     where
       size : length (take n b') ≡ n
-      size = words-length (solution-vector .words)
+      size = words-length (solution-holds .words)
 
   -- w_i = t·b_i modulo p for every solution w of M·w = t·b
   solution-word : (t : ℕ) (w : List ℕ) → Words p n w → SolvesTimes p n m t b w → (i : ℕ) → i < n → getD w i 0 ≡ (t * getD b' i 0) % p
   solution-word t w a h i g =
-      sym (mod-eq-of-lt (words-below a i g)) ∙ ap (λ z. z % p) (sym (identity-row p n m' w identity (words-length a) i g))
+      sym (mod-eq-of-lt (words-at a i g)) ∙ ap (λ z. z % p) (sym (identity-row p n m' w identity (words-length a) i g))
       ∙ E .forth t w (words-length a) h i g
 
   pub solution-regular : Regular p n m b (take n b')
@@ -54,12 +56,12 @@ module _ (p n k : ℕ) (m b m' b' : List ℕ) (positive : 0 < p) (small : n ≤ 
         solves = solution-solves;
         only =
             λ w a h.
-            words-same a (solution-vector .words)
+            words-same a (solution-holds .words)
             (λ i g. solution-word 1 w a (λ j l. h j l ∙ sym (times-one (getD b j 0))) i g ∙ times-one (getD b' i 0) ∙ mod-eq-of-lt (R .below i g)
             ∙ sym (getD-take n b' i 0 g));
         trivial =
             λ w a h.
-            words-same a (words-zero p n positive)
+            words-same a (zeros-words n positive)
             (λ i g. solution-word 0 w a (λ j l. h j l ∙ ap (λ z. z % p) (omega arith)) i g ∙ ap (λ z. z % p) (nothing (getD b' i 0)) ∙ zero-mod p ∙ sym (zero-beyond n i));
       }
 
@@ -75,15 +77,15 @@ pub modulus-of : (p : ℕ) → 2 ≤ p → p ≤ 1048576 → Modulus p (43980465
 modulus-of p h l = record { positive = omega arith; small = l; reciprocal = refl }
 
 -- The walk over the columns: its start, a turn, and its two ends.
-pub walk-start : (p n : ℕ) (m b : List ℕ) → n ≤ 16 → Square p n m → Vector p n b → Advanced p n 0 m b m b
+pub walk-start : (p n : ℕ) (m b : List ℕ) → n ≤ 16 → Square p n m → Holds p n b → Advanced p n 0 m b m b
 walk-start p n m b small S held =
     record {
       reduced =
           record {
             matrix = record { square = S; diagonal = λ j h. absurd (omega arith); others = λ i j h g. absurd (omega arith) };
-            size = vector-size p n b small held;
-            below = vector-below p n b small held;
-            zeros = vector-zeros p n b small held;
+            size = array-length n b small (held .zeros);
+            below = holds-word held;
+            zeros = holds-past held;
           };
       equivalent = equivalent-refl p n m b;
     }
@@ -94,7 +96,7 @@ walk-turn p n c m b m' b' x y A B = record { reduced = B .reduced; equivalent = 
 pub no-pivot : (n c r : ℕ) (m : List ℕ) → Pivot n c m r → r ≡ n → Pivot n c m n
 no-pivot n c r m P e = rw e at P
 
-pub outcome-singular : (p n c : ℕ) (m b m' b' v : List ℕ) → Advanced p n c m b m' b' → Vector p n v → Singular p n m' (take n v) → Outcome p n m b false v
+pub outcome-singular : (p n c : ℕ) (m b m' b' v : List ℕ) → Advanced p n c m b m' b' → Holds p n v → Singular p n m' (take n v) → Outcome p n m b false v
 outcome-singular p n c m b m' b' v A held S =
     record {
       holds = held;
@@ -105,7 +107,7 @@ outcome-singular p n c m b m' b' v A held S =
 pub outcome-regular : (p n k : ℕ) (m b m' b' : List ℕ) → 2 ≤ p → n ≤ 16 → Advanced p n k m b m' b' → n ≤ k → k ≤ n → Outcome p n m b true b'
 outcome-regular p n k m b m' b' prime small A from to =
     record {
-      holds = solution-vector p n k m b m' b' (omega arith) small (A .reduced) (A .equivalent) from to;
+      holds = solution-holds p n k m b m' b' (omega arith) small (A .reduced) (A .equivalent) from to;
       if-regular = λ _. solution-regular p n k m b m' b' (omega arith) small (A .reduced) (A .equivalent) from to;
       if-singular = λ e. absurd (let z : _≡_ {A = ℕ} 0 1 = cc in omega arith);
     }

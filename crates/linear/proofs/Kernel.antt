@@ -9,9 +9,10 @@ use native.Mathlib.Omega.{arith}
 use lib.ListN.{length, getD, take, set, replicate, length-set}
 use lib.Seq.{getD-set-same, getD-set-other, getD-take}
 use Rattle.linear.proofs.Sum.{product-zero, product-double}
-use Rattle.linear.proofs.Vectors.{words-length, zero-beyond, vector-words}
-use Rattle.quotient.specs.Array.{entry, rowProduct}
-use Rattle.linear.specs.System.{Vector, Singular}
+use Rattle.linear.proofs.Vectors.{zero-beyond, holds-of}
+use Rattle.quotient.specs.Array.{entry, rowProduct, Holds}
+use Rattle.quotient.proofs.Words.{words-length}
+use Rattle.linear.specs.System.{Singular}
 use Rattle.linear.specs.Elimination.{Identity, Pivot}
 
 pub record Filled (p c k : ℕ) (m v : List ℕ) : Type 0 where
@@ -56,14 +57,14 @@ module _ (p n c k : ℕ) (m v : List ℕ) (prime : 2 ≤ p) (small : n ≤ 16) (
         go (no l) (yes e) = rw (e, F .one) prime
         go (no l) (no d) = rw (F .after j (omega arith)) (omega arith)
 
-    pub kernel-vector : Vector p n v
-    kernel-vector = vector-words p n v small (F .size) kernel-below (λ j h. F .after j (omega arith))
+    pub kernel-holds : Holds p n v
+    kernel-holds = holds-of p n v small (F .size) kernel-below (λ j h. F .after j (omega arith))
 
     word : (j : ℕ) → j < n → getD (take n v) j 0 ≡ getD v j 0
     word j h = getD-take n v j 0 h
 
     kernel-length : length (take n v) ≡ n
-    kernel-length = words-length (kernel-vector .words)
+    kernel-length = words-length (kernel-holds .words)
 
     -- Left of column c a word of row i is 0 but for column i, and right of it a word of v is 0.
     other-terms : (i j : ℕ) → i < n → j < n → (j < c → j ≡ i → ⊥) → (j ≡ c → ⊥) → entry m i j * getD (take n v) j 0 ≡ 0

@@ -1,23 +1,18 @@
 -- Systems of n linear equations in n unknowns modulo p, n ≤ 16 (document 01: "held as one flat array of 256 words"): M·v = b.
 --   Solves p n m b v     M·v = b modulo p: in every row i < n the product with v is word i of b
---   Vector p n xs        the array xs holds n words below p, and zeros after them, 16 words in all
 --   Regular p n m b v    v is the only solution of M·v = b, and 0 the only one of M·v = 0
 --   Singular p n m v     v is not 0, and M·v = 0
 --   Outcome p n m b r v  the answer to a system: regular (r true) or singular (r false), with the vector v
 use mathlib.Core.Path.{_≡_}
 use mathlib.Core.Bool.{Bool, true, false}
-use mathlib.Core.List.{List, [], _++_}
-use Prim.Native.Nat.{ℕ, _+_, _-_, _%_, _<_}
+use mathlib.Core.List.{List, []}
+use Prim.Native.Nat.{ℕ, _%_, _<_}
 use lib.ListN.{getD, take, replicate}
-use Rattle.quotient.specs.Array.{rowProduct}
+use Rattle.quotient.specs.Array.{Holds, rowProduct}
 use Rattle.quotient.specs.Residue.{Words}
 
 abbrev pub Solves : ℕ → ℕ → List ℕ → List ℕ → List ℕ → Type 0
 Solves p n m b v = (i : ℕ) → i < n → rowProduct m i 0 v % p ≡ getD b i 0 % p
-
-pub record Vector (p n : ℕ) (xs : List ℕ) : Type 0 where
-  pub words : Words p n (take n xs)
-  pub zeros : xs ≡ take n xs ++ replicate (16 - n) 0
 
 pub record Regular (p n : ℕ) (m b v : List ℕ) : Type 0 where
   pub solves : Solves p n m b v
@@ -29,6 +24,6 @@ pub record Singular (p n : ℕ) (m v : List ℕ) : Type 0 where
   pub solves : Solves p n m [] v
 
 pub record Outcome (p n : ℕ) (m b : List ℕ) (regular : Bool) (vector : List ℕ) : Type 0 where
-  pub holds : Vector p n vector
+  pub holds : Holds p n vector
   pub if-regular : regular ≡ true → Regular p n m b (take n vector)
   pub if-singular : regular ≡ false → Singular p n m (take n vector)

@@ -1,9 +1,10 @@
-// Systems of n linear equations in n unknowns modulo p, by elimination column by column.
+// Systems of n linear equations in n unknowns modulo p, by elimination column by column. The matrix is lent: elimination works on it in place.
+ghost use mathlib.Core.Path.{_≡_};
 ghost use Prim.Native.Nat.{_≤_, _<_};
-ghost use lib.ListN.{take};
+ghost use lib.ListN.{length, take};
 ghost use Rattle.algebra.specs.Prime.{Prime};
-ghost use Rattle.quotient.specs.Array.{Square};
-ghost use Rattle.linear.specs.System.{Vector, Singular, Outcome};
+ghost use Rattle.quotient.specs.Array.{Square, Holds};
+ghost use Rattle.linear.specs.System.{Singular, Outcome};
 ghost use Rattle.linear.specs.Elimination.{Identity, Pivot};
 use crate::column::eliminate;
 use crate::column::find_pivot;
@@ -20,7 +21,7 @@ fn kernel_vector(p: u64, n: usize, c: usize, m: &[u64; 256]) -> [u64; 16]
     requires { ⌜ (2 ≤ p) × (p ≤ 1048576) × (n ≤ 16) × (c < n) ⌝ }
     requires { ⌜ Identity p n c (now m) ⌝ }
     requires { ⌜ Pivot n c (now m) n ⌝ }
-    ensures { λ v. ⌜ Vector p n v ⌝ }
+    ensures { λ v. ⌜ Holds p n v ⌝ }
     ensures { λ v. ⌜ Singular p n (now (m .entry)) (take n v) ⌝ }
 {
     let mut v: [u64; 16] = [0; 16];
@@ -33,27 +34,27 @@ fn kernel_vector(p: u64, n: usize, c: usize, m: &[u64; 256]) -> [u64; 16]
     v
 }
 
-// Solves M·v = b: walks the columns, and stops at the first without a pivot.
-pub fn solve(p: u64, n: usize, m: [u64; 256], b: [u64; 16]) -> Solution
+// Solves M·v = b: walks the columns, and stops at the first without a pivot. Of the matrix at the end only the length is promised.
+pub fn solve(p: u64, n: usize, m: &mut [u64; 256], b: [u64; 16]) -> Solution
     requires { ⌜ Prime p ⌝ }
     requires { ⌜ (p ≤ 1048576) × (n ≤ 16) ⌝ }
-    requires { ⌜ Square p n m ⌝ }
-    requires { ⌜ Vector p n b ⌝ }
-    ensures { λ r. ⌜ Outcome p n m b (r .regular) (r .vector) ⌝ }
+    requires { ⌜ Square p n (now m) ⌝ }
+    requires { ⌜ Holds p n b ⌝ }
+    ensures { λ r. ⌜ Outcome p n (now (m .entry)) b (r .regular) (r .vector) ⌝ }
+    ensures { λ _. ⌜ length (now (m .exit)) ≡ 256 ⌝ }
 {
     let u = 4398046511104 / p;
-    let mut a = m;
     let mut v = b;
     let mut c = 0;
     while c < n {
-        let r = find_pivot(n, c, &a);
+        let r = find_pivot(n, c, m);
         if r == n {
             return Solution {
                 regular: false,
-                vector: kernel_vector(p, n, c, &a),
+                vector: kernel_vector(p, n, c, m),
             };
         }
-        eliminate(p, u, n, c, r, &mut a, &mut v);
+        eliminate(p, u, n, c, r, m, &mut v);
         c += 1;
     }
     Solution {

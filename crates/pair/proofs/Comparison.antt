@@ -14,7 +14,7 @@ use Rattle.algebra.specs.Lists.{equal}
 use Rattle.quotient.specs.Residue.{sum, constant}
 use Rattle.quotient.proofs.Words.{words-length, sum-words, constant-zero}
 use Rattle.quotient.specs.Array.{Holds}
-use Rattle.residue.proofs.Combination.{sum-word}
+use Rattle.residue.proofs.PowerMatrix.{sum-word}
 
 pub record Left (n : ℕ) (xs ys : List ℕ) (i : ℕ) : Type 0 where
   pub first-length : length xs ≡ n

@@ -13,7 +13,7 @@ use Rattle.quotient.specs.Residue.{Words, none, more, sum, scale, constant, shi
 use Rattle.quotient.proofs.Ring.{residueRing, zeroResidue, constantResidue, mulResidue}
 use Rattle.quotient.proofs.Sums.{sum-zero}
 use Rattle.quotient.proofs.Words as Words
-use Rattle.residue.proofs.Powers.{power-one}
+use Rattle.residue.proofs.Power.{power-one}
 use Rattle.pair.specs.Pair.{Congruences, accepts}
 use Rattle.pair.proofs.Accepts as Accepts
 

@@ -1,27 +1,27 @@
--- The two tests of `accepts`, from one table of the powers of S modulo T2: what each array holds, and what the tests decide.
+-- The two tests of `accepts`, from one matrix of the powers of S modulo T2: what each array holds, and what the tests decide.
 use mathlib.Core.Path.{_≡_, sym, ap, ap₂, _∙_}
 use mathlib.Core.Bool.{Bool, true, false, not, _&&_}
 use mathlib.Core.List.{List}
-use Prim.Native.Nat.{ℕ, suc, _-_, _*_, _≤_}
+use Prim.Native.Nat.{ℕ, suc, _-_, _≤_}
 use native.Mathlib.Omega.{arith}
-use lib.ListN.{length, take, drop}
+use lib.ListN.{length, take}
 use borrow.Author.Tests.{not-true, not-false}
 use Rattle.algebra.specs.Lists.{equal}
 use Rattle.quotient.specs.Residue.{Words, sum, constant, product, power, residueOfX, substitute, modulusAt}
 use Rattle.quotient.proofs.Words.{words-length, power-words, substitute-words, residueOfX-words}
 use Rattle.quotient.specs.Array.{padded, Holds}
-use Rattle.residue.specs.Table.{Powers, combination}
-use Rattle.residue.proofs.Combination.{row-is-power, combine-is-substitute}
+use Rattle.residue.specs.Matrix.{Powers, column, matrixProduct}
+use Rattle.residue.proofs.PowerMatrix.{column-is-power, apply-is-substitute}
 use Rattle.quotient.proofs.Padded.{array-length, holds-is, front-is}
 use Rattle.pair.specs.Pair.{accepts}
 use Rattle.pair.proofs.Accepts as Accepts
 
-module _ (p n : ℕ) (t s table : List ℕ) (h : Powers p n (take n t) (take n s) table) (x : Holds p n t) (y : Holds p n s) (big : 2 ≤ p) (some : 1 ≤ n)
+module _ (p n : ℕ) (t s m : List ℕ) (h : Powers p n (take n t) (take n s) m) (x : Holds p n t) (y : Holds p n s) (big : 2 ≤ p) (some : 1 ≤ n)
     (short : n ≤ 16) where
   -- u(S) for any u
-  module _ (u image : List ℕ) (z : Holds p n u) (e : image ≡ padded (combination p n table u)) where
+  module _ (u image : List ℕ) (z : Holds p n u) (e : image ≡ padded (matrixProduct p n m (take n u))) where
     image-is : image ≡ padded (substitute p (take n t) (take n s) (take n u))
-    image-is = combine-is-substitute p n t s table big short x y h u image z e
+    image-is = apply-is-substitute p n t s m big x y h u image z e
 
     image-words : Words p n (substitute p (take n t) (take n s) (take n u))
     image-words = substitute-words big (x .words) (y .words) (z .words)
@@ -36,9 +36,9 @@ module _ (p n : ℕ) (t s table : List ℕ) (h : Powers p n (take n t) (take n s
     image-front = front-is image-is image-words
 
   -- S^(n−1) and S^n
-  module _ (last : List ℕ) (e : last ≡ padded (take n (drop (16 * (n - 1)) table))) where
+  module _ (last : List ℕ) (e : last ≡ padded (column n m (n - 1))) where
     last-is : last ≡ padded (power p (take n t) (take n s) (n - 1))
-    last-is = row-is-power p n t s table big short x y h (n - 1) last (omega arith) e
+    last-is = column-is-power p n t s m big x y h (n - 1) last (omega arith) e
 
     pub last-holds : Holds p n last
     last-holds = holds-is last-is (power-words big (x .words) (y .words) (n - 1))
@@ -53,14 +53,14 @@ module _ (p n : ℕ) (t s table : List ℕ) (h : Powers p n (take n t) (take n s
       pub top-holds : Holds p n top
       top-holds = holds-is top-is (power-words big (x .words) (y .words) n)
 
-      -- M(S) is S^n and what the lower words of M give
-      pub root-decides : (m rest : List ℕ) (b : Bool) → Holds p n m → rest ≡ padded (combination p n table m) → b ≡ equal (sum p (take n top) (take n rest)) (constant n 0)
-          → b ≡ equal (modulusAt p (take n t) (take n s) (take n m)) (constant n 0)
+      -- T1(S) is S^n and what the lower words of T1 give
+      pub root-decides : (t1 rest : List ℕ) (b : Bool) → Holds p n t1 → rest ≡ padded (matrixProduct p n m (take n t1)) → b ≡ equal (sum p (take n top) (take n rest)) (constant n 0)
+          → b ≡ equal (modulusAt p (take n t) (take n s) (take n t1)) (constant n 0)
       unfolding modulusAt
-      root-decides m rest b z g k =
+      root-decides t1 rest b z g k =
           k ∙ ap (λ l. equal l (constant n 0)) (ap₂ (sum p)
           (front-is top-is (power-words big (x .words) (y .words) n) ∙ ap (power p (take n t) (take n s)) (sym (words-length (z .words))))
-          (image-front m rest z g))
+          (image-front t1 rest z g))
 
   -- the two tests
   module _ (t1 r : List ℕ) (z : Holds p n t1) (w : Holds p n r) (b : Bool) (k : b ≡ equal (modulusAt p (take n t) (take n s) (take n t1)) (constant n 0)) where
@@ -72,7 +72,7 @@ module _ (p n : ℕ) (t s table : List ℕ) (h : Powers p n (take n t) (take n s
     pub root-fails : not b ≡ true → false ≡ accepts p (take n t1) (take n t) (take n s) (take n r)
     root-fails f = ap (λ a. a && equal (substitute p (take n t) (take n s) (take n r)) (residueOfX p (take n t))) (sym (not-true b f)) ∙ tests
 
-    pub inverse-decides : (image : List ℕ) (c : Bool) → not b ≡ false → image ≡ padded (combination p n table r) → c ≡ equal (take n image) (residueOfX p (take n t))
+    pub inverse-decides : (image : List ℕ) (c : Bool) → not b ≡ false → image ≡ padded (matrixProduct p n m (take n r)) → c ≡ equal (take n image) (residueOfX p (take n t))
         → c ≡ accepts p (take n t1) (take n t) (take n s) (take n r)
     inverse-decides image c f e g =
         g ∙ ap (λ l. equal l (residueOfX p (take n t))) (image-front r image w e)

@@ -1,17 +1,17 @@
-// The congruences of a pair. Two of them, T1(S) = 0 and R(S) = X modulo T2, imply the other two, and one table of the powers of S serves both.
+// The congruences of a pair. Two of them, T1(S) = 0 and R(S) = X modulo T2, imply the other two, and one matrix of the powers of S serves both.
 use modular::word::add;
+use residue::matrix::apply;
+use residue::matrix::column;
+use residue::matrix::powers;
 use residue::ring::product;
 use residue::ring::residue_of_x;
-use residue::table::combine;
-use residue::table::powers;
-use residue::table::row;
 ghost use mathlib.Core.Path.{_≡_};
 ghost use Prim.Native.Nat.{_^_, _≤_};
 ghost use lib.ListN.{length, take};
 ghost use Rattle.algebra.specs.Lists.{equal};
 ghost use Rattle.quotient.specs.Residue.{constant, sum, residueOfX, modulusAt};
 ghost use Rattle.quotient.specs.Array.{Holds};
-ghost use Rattle.residue.specs.Table.{Powers};
+ghost use Rattle.residue.specs.Matrix.{Powers};
 ghost use Rattle.pair.specs.Pair.{accepts as acceptsPair};
 
 // Whether u = v.
@@ -44,22 +44,15 @@ fn opposite(p: u64, n: usize, u: &[u64; 16], v: &[u64; 16]) -> bool
     true
 }
 
-// Whether M(S) = 0 modulo T, where M is the monic polynomial with the lower words m: S^n is opposite to what these give.
-fn is_root(
-    p: u64,
-    n: usize,
-    t: &[u64; 16],
-    s: &[u64; 16],
-    table: &[u64; 256],
-    m: &[u64; 16],
-) -> bool
+// Whether T1(S) = 0 modulo T, by the matrix of the powers of S: S^n is opposite to what the lower words of T1 give.
+fn is_root(p: u64, n: usize, t: &[u64; 16], s: &[u64; 16], m: &[u64; 256], t1: &[u64; 16]) -> bool
     requires { ⌜ (2 ≤ p) × (p ≤ 2 ^ 20) × (1 ≤ n) × (n ≤ 16) ⌝ }
-    requires { ⌜ Holds p n (now t) × Holds p n (now s) × Holds p n (now m) × Powers p n (take n (now t)) (take n (now s)) (now table) ⌝ }
-    ensures { λ r. ⌜ r ≡ equal (modulusAt p (take n (now (t .entry))) (take n (now (s .entry))) (take n (now (m .entry)))) (constant n 0) ⌝ }
+    requires { ⌜ Holds p n (now t) × Holds p n (now s) × Holds p n (now t1) × Powers p n (take n (now t)) (take n (now s)) (now m) ⌝ }
+    ensures { λ r. ⌜ r ≡ equal (modulusAt p (take n (now (t .entry))) (take n (now (s .entry))) (take n (now (t1 .entry)))) (constant n 0) ⌝ }
 {
-    let last = row(n, table, n - 1);
+    let last = column(n, m, n - 1);
     let top = product(p, n, t, s, &last);
-    let rest = combine(p, n, table, m);
+    let rest = apply(p, n, m, t1);
     opposite(p, n, &top, &rest)
 }
 
@@ -86,10 +79,11 @@ pub fn accepts(
     requires { ⌜ Holds p n (now t1) × Holds p n (now t2) × Holds p n (now s) × Holds p n (now r) ⌝ }
     ensures { λ b. ⌜ b ≡ acceptsPair p (take n (now (t1 .entry))) (take n (now (t2 .entry))) (take n (now (s .entry))) (take n (now (r .entry))) ⌝ }
 {
-    let table = powers(p, n, t2, s);
-    if !is_root(p, n, t2, s, &table, t1) {
+    let mut m = [0; 256];
+    powers(p, n, t2, s, &mut m);
+    if !is_root(p, n, t2, s, &m, t1) {
         return false;
     }
-    let image = combine(p, n, &table, r);
+    let image = apply(p, n, &m, r);
     is_x(p, n, t2, &image)
 }

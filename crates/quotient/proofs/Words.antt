@@ -1,5 +1,5 @@
 -- Lists of n words below p: every operation on residues gives such a list again, and residues with equal lists are equal.
-use mathlib.Core.Path.{_≡_, refl, ap}
+use mathlib.Core.Path.{_≡_, refl, sym, ap, _∙_}
 use mathlib.Core.HLevel.{Σ-prop-path, Σ-prop-discrete}
 use mathlib.Core.List.{List, [], _∷_, _++_, List-discrete}
 use Prim.Native.Nat.{ℕ, zero, suc, _+_, _<_, _≤_}
@@ -7,12 +7,17 @@ use native.Mathlib.Nat as Nat
 use native.Mathlib.Bridge.{le-prop}
 use native.Mathlib.Decide.{ℕ-discrete}
 use native.Mathlib.Omega.{arith}
-use lib.ListN.{length, replicate}
+use lib.ListN.{length, getD, replicate}
+use lib.Seq.{ext-getD}
 use Rattle.quotient.specs.Residue.{Words, none, more, Residue, sum, scale, constant, shift, top, timesX, product, power, residueOfX, substitute, modulusAt}
 
 pub words-length : {p n : ℕ} {u : List ℕ} → Words p n u → length u ≡ n
 words-length none = refl
 words-length (more h w) = ap suc (words-length w)
+
+-- two such lists with the same words are equal
+pub words-same : {p n : ℕ} {u v : List ℕ} → Words p n u → Words p n v → ((j : ℕ) → j < n → getD u j 0 ≡ getD v j 0) → u ≡ v
+words-same {u = u} {v = v} a b h = ext-getD 0 u v (words-length a ∙ sym (words-length b)) (λ j g. h j (omega (arith, words-length a)))
 
 -- the number of words of a residue may be written as the length of the modulus
 pub to-length : {p n : ℕ} {t u : List ℕ} → Words p n t → Words p n u → Words p (length t) u

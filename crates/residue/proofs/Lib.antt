@@ -3,13 +3,13 @@ pub mod Horner
 pub mod Step
 pub mod Reduce
 pub mod Product
-pub mod Rows
 pub mod Substitute
 pub mod Power
 pub mod TimesX
 pub mod Copy
+pub mod MatrixLoops
 pub mod Powers
-pub mod Combination
+pub mod PowerMatrix
 pub mod Refusals
 pub mod Accepted
 pub mod Answers

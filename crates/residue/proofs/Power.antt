@@ -64,6 +64,9 @@ x-fits p n t b h x =
 
 -- the laws of exponents
 module _ {p n : ℕ} {t : List ℕ} (big : 2 ≤ p) (wt : Words p n t) {u : List ℕ} (wu : Words p n u) where
+  pub power-one : power p t u 1 ≡ u
+  power-one = power-is big wt (u, wu) 1 ∙ ap (λ a. a .0) (RingLaws.power-one (residueRing big wt) (u, wu))
+
   power-sum : (j k : ℕ) → power p t u (j + k) ≡ product p t (power p t u j) (power p t u k)
   unfolding residueRing mulResidue
   power-sum j k =
@@ -88,6 +91,9 @@ pub power-none : (p n k : ℕ) (t u r : List ℕ) → k ≡ 0 → Holds p n t �
 unfolding power
 power-none p n k t u r z x e =
     e ∙ ap padded (ap (λ m. constant m 1) (sym (words-length (x .words))) ∙ ap (power p (take n t) u) (sym z))
+
+pub power-self : (p n k : ℕ) (t u : List ℕ) → k ≡ 1 → 2 ≤ p → Holds p n t → Holds p n u → u ≡ padded (power p (take n t) (take n u) k)
+power-self p n k t u e big x y = y .zeros ∙ ap padded (sym (power-one big (x .words) (y .words)) ∙ ap (power p (take n t) (take n u)) (sym e))
 
 pub power-holds : (p n k : ℕ) (t u h : List ℕ) → h ≡ padded (power p (take n t) u k) → 2 ≤ p → Holds p n t → Words p n u → Holds p n h
 power-holds p n k t u h e big x y = holds-is e (power-words big (x .words) y k)

@@ -1,16 +1,17 @@
 -- The product of two residues with delayed reduction: what holds before the first step, between steps and after the last.
 use mathlib.Core.Path.{_≡_, refl, sym, ap, subst, _∙_}
-use mathlib.Core.List.{List}
+use mathlib.Core.List.{List, [], _∷_}
 use Prim.Native.Nat.{ℕ, zero, suc, _+_, _-_, _*_, _^_, _≤_, _<_}
 use native.Mathlib.Nat as Nat
 use native.Mathlib.Omega.{arith}
 use lib.ListN.{getD, take, drop, replicate, drop-of-length-le}
 use Rattle.algebra.specs.Lists.{All}
-use Rattle.quotient.specs.Residue.{constant, product}
+use Rattle.quotient.specs.Residue.{sum, scale, constant, timesX, product}
 use Rattle.quotient.proofs.Words.{words-length, constant-zero}
 use Rattle.quotient.specs.Array.{padded, Holds}
 use Rattle.residue.specs.Delayed.{reduced, Delayed}
-use Rattle.quotient.proofs.Padded.{padded-zeros, take-zeros}
+use Rattle.quotient.proofs.Padded.{array-fits, padded-zeros, take-zeros, holds-word}
+use Rattle.residue.proofs.Horner.{product-at}
 use Rattle.residue.proofs.Step.{delayed-word}
 
 reduced-zeros : (p n : ℕ) → reduced p (replicate n 0) ≡ replicate n 0
@@ -22,37 +23,62 @@ all-zeros : (b n : ℕ) → All (λ a. a ≤ b) (replicate n 0)
 all-zeros b zero = tt
 all-zeros b (suc n) = (omega arith, all-zeros b n)
 
+all-weaker : (j k : ℕ) (u : List ℕ) → j ≤ k → All (λ a. a ≤ j * 2 ^ 42) u → All (λ a. a ≤ k * 2 ^ 42) u
+all-weaker j k [] l h = tt
+all-weaker j k (a ∷ u) l h = (omega (arith, Nat.mul-le-mul-right (2 ^ 42) l, h .0), all-weaker j k u l (h .1))
+
 -- before the first step: no word of u, and zeros
-pub product-starts : (p n : ℕ) (t u v : List ℕ) → n ≤ 16 → Holds p n t → Holds p n u
-    → Delayed p n (n - n) (product p (take n t) (drop n (take n u)) (take n v)) (replicate 16 0)
+pub product-starts : (p n : ℕ) (t u v w : List ℕ) → n ≤ 16 → Holds p n t → Holds p n u → w ≡ replicate 16 0
+    → Delayed p n (n - n) (product p (take n t) (drop n (take n u)) (take n v)) w
 unfolding product
-product-starts p n t u v h x y =
-    let front : take n (replicate {A = ℕ} 16 0) ≡ replicate n 0 = take-zeros n h in
+product-starts p n t u v w h x y e =
+    let front : take n w ≡ replicate n 0 = ap (take n) e ∙ take-zeros n h in
     record {
       words = ap (reduced p) front ∙ reduced-zeros p n ∙ sym (constant-zero n)
           ∙ ap (λ k. constant k 0) (sym (words-length (x .words)))
           ∙ ap (λ l. product p (take n t) l (take n v)) (sym (drop-of-length-le (take n u) (Nat.le-of-eq (words-length (y .words)))));
       small = subst (All (λ a. a ≤ (n - n) * 2 ^ 42)) (sym front) (all-zeros ((n - n) * 2 ^ 42) n);
-      zeros = padded-zeros n h ∙ ap padded (sym front);
+      zeros = e ∙ padded-zeros n h ∙ ap padded (sym front);
     }
 
-pub product-asks : (p n i : ℕ) (t u v w : List ℕ) → 0 < i → Delayed p n (n - i) (product p t (drop i u) v) w
-    → Delayed p n (n - (i - 1 + 1)) (product p t (drop (i - 1 + 1) u) v) w
-product-asks p n i t u v w h d =
-    let e : i ≡ i - 1 + 1 = omega arith in
-    subst (λ k. Delayed p n (n - k) (product p t (drop k u) v) w) e d
+-- a step takes the next word of u
 
-pub product-done : (p n i : ℕ) (t u v w r : List ℕ) → i ≤ 0 → Delayed p n (n - i) (product p t (drop i u) v) w
-    → r ≡ padded (reduced p (take n w)) → r ≡ padded (product p t u v)
-product-done p n i t u v w r h d e =
+pub next-word : (p n i : ℕ) (u : List ℕ) → 0 < i → i ≤ n → Holds p n u → getD u (i - 1) 0 < p
+next-word p n i u h l y = holds-word y (i - 1) (omega arith)
+
+pub product-turn : (p n i : ℕ) (t u v w w′ : List ℕ) → 0 < i → i ≤ n → n ≤ 16 → Holds p n u
+    → Delayed p n (n - i) (product p (take n t) (drop i (take n u)) (take n v)) w
+    → ((k : ℕ) → (a : List ℕ) → Delayed p n k a w → Delayed p n (k + 1) (sum p (scale p (getD u (i - 1) 0) (take n v)) (timesX p (take n t) a)) w′)
+    → Delayed p n (n - (i - 1)) (product p (take n t) (drop (i - 1) (take n u)) (take n v)) w′
+product-turn p n i t u v w w′ pos l b y d step =
+    let f : i - 1 + 1 ≡ i = omega arith in
+    let g : n - i + 1 ≡ n - (i - 1) = omega arith in
+    let e : sum p (scale p (getD u (i - 1) 0) (take n v)) (timesX p (take n t) (product p (take n t) (drop i (take n u)) (take n v)))
+    ≡ product p (take n t) (drop (i - 1) (take n u)) (take n v)
+    = ap (λ j. sum p (scale p (getD u (i - 1) 0) (take n v)) (timesX p (take n t) (product p (take n t) (drop j (take n u)) (take n v)))) (sym f)
+    ∙ sym (product-at p n (i - 1) (take n t) u (take n v) (omega arith) (array-fits n u b (y .zeros))) in
+    subst (λ s. Delayed p n (n - (i - 1)) s w′) e (subst (λ j. Delayed p n j (sum p (scale p (getD u (i - 1) 0) (take n v)) (timesX p (take n t) (product p (take n t) (drop i (take n u)) (take n v)))) w′) g
+    (step (n - i) (product p (take n t) (drop i (take n u)) (take n v)) d))
+
+pub product-done : (p n i : ℕ) (t u v w : List ℕ) → i ≤ 0 → Delayed p n (n - i) (product p t (drop i u) v) w → Delayed p n n (product p t u v) w
+product-done p n i t u v w h d =
     let z : i ≡ 0 = omega arith in
-    e ∙ ap padded (d .words ∙ ap (λ k. product p t (drop k u) v) z)
+    let e : n - 0 ≡ n = omega arith in
+    subst (λ j. Delayed p n j (product p t u v) w) e (subst (λ j. Delayed p n (n - j) (product p t (drop j u) v) w) z d)
 
--- what the reductions may assume of the words
-pub top-small : (p n i : ℕ) (s w : List ℕ) → Delayed p n (n - i) s w → 1 ≤ n → n ≤ 16 → getD w (n - 1) 0 ≤ 2 ^ 46
+-- what the next step and the reductions may assume of the words
+
+delayed-more : {p n j k : ℕ} {s w : List ℕ} → j ≤ k → Delayed p n j s w → Delayed p n k (reduced p (take n w)) w
+delayed-more {p} {n} {j} {k} {s} {w} l d = record { words = refl; small = all-weaker j k (take n w) l (d .small); zeros = d .zeros }
+
+pub step-given : (p n i : ℕ) (s w : List ℕ) → Delayed p n (n - i) s w → n ≤ 16 → Delayed p n 16 (reduced p (take n w)) w
+step-given p n i s w d h = delayed-more (omega arith) d
+
+pub top-small : (p n i : ℕ) (s w : List ℕ) → Delayed p n (n - i) s w → 1 ≤ n → n ≤ 16 → getD w (n - 1) 0 ≤ 2 ^ 47
 top-small p n i s w d l h = omega (arith, delayed-word d h (n - 1) (omega arith))
 
-pub reduce-given : (p n i : ℕ) (s w : List ℕ) → Delayed p n (n - i) s w → i ≤ 0 → Delayed p n n (reduced p (take n w)) w
-reduce-given p n i s w d h =
-    let e : n - i ≡ n = omega arith in
-    record { words = refl; small = subst (λ k. All (λ a. a ≤ k * 2 ^ 42) (take n w)) e (d .small); zeros = d .zeros }
+pub reduce-given : (p n : ℕ) (s w : List ℕ) → Delayed p n n s w → n ≤ 16 → Delayed p n 17 (reduced p (take n w)) w
+reduce-given p n s w d h = delayed-more (omega arith) d
+
+pub reduced-is : (p n k : ℕ) (s w w′ : List ℕ) → Delayed p n k s w → w′ ≡ padded (reduced p (take n w)) → w′ ≡ padded s
+reduced-is p n k s w w′ d e = e ∙ ap padded (d .words)

@@ -1,24 +1,25 @@
--- Division by a fixed m through its reciprocal. For m from 2^19 to 2^20 and x up to 2^46, with h = x / 2^19 and r = 2^54 / m, the quotient
+-- Division by a fixed m through its reciprocal. For m from 2^19 to 2^20 and x up to 2^47, with h = x / 2^19 and r = 2^54 / m, the quotient
 -- d = h·r / 2^35 is at most x / m and less than 3 below it: each of the three roundings loses less than 1.
-use mathlib.Core.Path.{_≡_, sym, ap, _∙_}
+use mathlib.Core.Path.{_≡_, refl, sym, ap, _∙_}
 use Prim.Native.Nat.{ℕ, zero, suc, _+_, _-_, _*_, _/_, _%_, _^_, _≤_, _<_}
 use native.Mathlib.Nat as Nat
 use native.Mathlib.Omega.{arith}
 use mir.Syntax.{w64}
 use mir.Val.{Fits}
+use Rattle.residue.specs.Delayed.{Modulus}
 
 -- the three roundings as inequalities, each multiplied out
-quotient-bounds : (m r x h d : ℕ) → 2 ^ 19 ≤ m → h * 2 ^ 19 ≤ x → x < h * 2 ^ 19 + 2 ^ 19 → h ≤ 2 ^ 27 → m * r ≤ 2 ^ 54 → 2 ^ 54 ≤ m * r + m
+quotient-bounds : (m r x h d : ℕ) → 2 ^ 19 ≤ m → h * 2 ^ 19 ≤ x → x < h * 2 ^ 19 + 2 ^ 19 → h ≤ 2 ^ 28 → m * r ≤ 2 ^ 54 → 2 ^ 54 ≤ m * r + m
     → d * 2 ^ 35 ≤ h * r → h * r ≤ d * 2 ^ 35 + 2 ^ 35 → (d * m ≤ x) × (x < d * m + 3 * m)
 quotient-bounds m r x h d low a b c f g i j =
     let i′ : d * 2 ^ 35 * m ≤ h * r * m = Nat.mul-le-mul-right m i in
     let j′ : h * r * m ≤ (d * 2 ^ 35 + 2 ^ 35) * m = Nat.mul-le-mul-right m j in
     let f′ : h * (m * r) ≤ h * 2 ^ 54 = Nat.mul-le-mul-left h f in
     let g′ : h * 2 ^ 54 ≤ h * (m * r + m) = Nat.mul-le-mul-left h g in
-    let c′ : h * m ≤ 2 ^ 27 * m = Nat.mul-le-mul-right m c in
+    let c′ : h * m ≤ 2 ^ 28 * m = Nat.mul-le-mul-right m c in
     (omega arith, omega arith)
 
-module _ (m r x : ℕ) (low : 2 ^ 19 ≤ m) (e : r ≡ 2 ^ 54 / m) (small : x ≤ 2 ^ 46) where
+module _ (m r x : ℕ) (low : 2 ^ 19 ≤ m) (e : r ≡ 2 ^ 54 / m) (small : x ≤ 2 ^ 47) where
   exact : m * r + 2 ^ 54 % m ≡ 2 ^ 54
   exact = ap (λ k. m * k + 2 ^ 54 % m) e ∙ Nat.div-add-mod (2 ^ 54) m
 
@@ -36,7 +37,7 @@ module _ (m r x : ℕ) (low : 2 ^ 19 ≤ m) (e : r ≡ 2 ^ 54 / m) (small : x �
 
   pub quotient-fits : Fits w64 (x / 524288 * r)
   quotient-fits =
-      let h : x / 524288 ≤ 2 ^ 27 = omega arith in
+      let h : x / 524288 ≤ 2 ^ 28 = omega arith in
       omega (arith, Nat.mul-le-mul h reciprocal-small)
 
   pub subtracted-below : x / 524288 * r / 34359738368 * m ≤ x
@@ -77,6 +78,9 @@ module _ (p k : ℕ) (big : 2 ≤ p) (small : p ≤ 2 ^ 20) (e : k ≡ 2 ^ 20 / 
 
   pub multiple-fits : Fits w64 (p * k)
   multiple-fits = omega (arith, multiple-high)
+
+  pub modulus-of : Modulus p k (2 ^ 54 / (p * k))
+  modulus-of = record { big = big; small = small; multiplier = e; reciprocal = refl }
 
   module _ (x r : ℕ) (l : r < 3 * (p * k)) (h : r % (p * k) ≡ x % (p * k)) where
     pub remainder-is : r % p ≡ x % p

@@ -25,11 +25,11 @@ unfolding remainder
 reduce-turn p j a w w′ e f =
     ap₂ (λ l x. set l j x) e (f ∙ ap (λ l. getD l j 0 % p) e ∙ ap (λ x. x % p) (painted-above w (remainder p w) j j (omega arith))) ∙ painted-next w (remainder p w) j
 
-pub reduce-asks : (p n j : ℕ) (s w w′ : List ℕ) → Delayed p n n s w → n ≤ 16 → w′ ≡ painted w (remainder p w) j → j < n → getD w′ j 0 ≤ 2 ^ 46
+pub reduce-asks : (p n j : ℕ) (s w w′ : List ℕ) → Delayed p n 17 s w → n ≤ 16 → w′ ≡ painted w (remainder p w) j → j < n → getD w′ j 0 ≤ 2 ^ 47
 reduce-asks p n j s w w′ d h e l =
     omega (arith, ap (λ l. getD l j 0) e ∙ painted-above w (remainder p w) j j (omega arith), delayed-word d h j l)
 
-pub reduce-done : (p n j : ℕ) (s w w′ : List ℕ) → n ≤ 16 → Delayed p n n s w → j ≤ n → n ≤ j → w′ ≡ painted w (remainder p w) j
+pub reduce-done : (p n j : ℕ) (s w w′ : List ℕ) → n ≤ 16 → Delayed p n 17 s w → j ≤ n → n ≤ j → w′ ≡ painted w (remainder p w) j
     → w′ ≡ padded (reduced p (take n w))
 reduce-done p n j s w w′ h d l l′ e =
     let same : j ≡ n = omega arith in

@@ -1,22 +1,22 @@
--- The loop of a step of Horner's rule with delayed reduction: no sum overflows, each entry grows by at most 2^42, and the array at the
+-- The loop of a step of Horner's rule with delayed reduction: no sum overflows, the bound of the entries grows by 2^42, and the array at the
 -- loop's end is that of the next step.
-use mathlib.Core.Path.{_≡_, refl, sym, ap, subst, _∙_}
+use mathlib.Core.Path.{_≡_, sym, ap, subst, _∙_}
 use mathlib.Core.List.{List, [], _∷_}
 use Prim.Native.Nat.{ℕ, zero, suc, _+_, _-_, _*_, _%_, _^_, _≤_, _<_}
 use native.Mathlib.Nat as Nat
 use native.Mathlib.Numerals.{add-one}
 use native.Mathlib.Omega.{arith}
-use lib.ListN.{length, getD, take, drop, set}
+use lib.ListN.{length, getD, take, set}
 use lib.Seq.{getD-take, length-take-le}
 use mir.Syntax.{w64}
 use mir.Val.{Fits}
 use Rattle.algebra.specs.Lists.{All}
-use Rattle.quotient.specs.Residue.{sum, scale, timesX, product}
+use Rattle.quotient.specs.Residue.{sum, scale, timesX}
 use Rattle.quotient.specs.Array.{padded, Holds}
 use Rattle.residue.specs.Delayed.{reduced, Delayed}
 use Rattle.quotient.proofs.Painted.{painted, table, table-length, painted-next, painted-above}
 use Rattle.quotient.proofs.Padded.{array-fits, painted-array, take-padded, holds-word}
-use Rattle.residue.proofs.Horner.{term, step-mod, product-at}
+use Rattle.residue.proofs.Horner.{term, step-mod}
 
 all-table : (P : ℕ → Type 0) (f : ℕ → ℕ) (n : ℕ) → ((k : ℕ) → k < n → P (f k)) → All P (table f n)
 unfolding table
@@ -43,27 +43,27 @@ delayed-carry d b (suc k) l = delayed-word d b k l
 pub word-short : {p n : ℕ} {xs : List ℕ} → Holds p n xs → p ≤ 2 ^ 20 → (j : ℕ) → j < n → getD xs j 0 < 2 ^ 32
 word-short h b j l = omega (arith, holds-word h j l)
 
-module _ (p n i j q : ℕ) (t u v : List ℕ) (small : p ≤ 2 ^ 20) (short : n ≤ 16) (bound : q ≤ 3 * 2 ^ 20) (x : Holds p n t) (y : Holds p n u) (z : Holds p n v) (li : i < n) (lj : j < n) where
+module _ (p n j q c : ℕ) (t v : List ℕ) (small : p ≤ 2 ^ 20) (short : n ≤ 16) (bound : q ≤ 3 * 2 ^ 20) (x : Holds p n t) (z : Holds p n v) (lc : c < p) (lj : j < n) where
   taken-small : q * getD t j 0 ≤ 3 * 2 ^ 40
   taken-small =
       let f : getD t j 0 ≤ 2 ^ 20 = omega (arith, holds-word x j lj) in
       Nat.mul-le-mul bound f
 
-  added-small : getD u i 0 * getD v j 0 ≤ 2 ^ 40
+  added-small : c * getD v j 0 ≤ 2 ^ 40
   added-small =
-      let f : getD u i 0 ≤ 2 ^ 20 = omega (arith, holds-word y i li) in
+      let f : c ≤ 2 ^ 20 = omega arith in
       let g : getD v j 0 ≤ 2 ^ 20 = omega (arith, holds-word z j lj) in
       Nat.mul-le-mul f g
 
-  module _ (carry : ℕ) (w s : List ℕ) (d : Delayed p n (n - (i + 1)) s w) (e : carry ≡ getD (0 ∷ w) j 0) where
-    entry-small : carry + q * getD t j 0 + getD u i 0 * getD v j 0 ≤ (n - i) * 2 ^ 42
-    entry-small = omega (arith, taken-small, added-small, delayed-carry d short j (omega arith))
+  entry-small : {k : ℕ} {a w : List ℕ} → Delayed p n k a w → getD (0 ∷ w) j 0 + q * getD t j 0 + c * getD v j 0 ≤ (k + 1) * 2 ^ 42
+  entry-small d = omega (arith, taken-small, added-small, delayed-carry d short j (omega arith))
 
-    pub carry-fits : (a : ℕ) → a ≡ q * getD t j 0 → Fits w64 (carry + a)
-    carry-fits a f = omega (arith, entry-small)
+  module _ (carry : ℕ) (w a : List ℕ) (d : Delayed p n 16 a w) (e : carry ≡ getD (0 ∷ w) j 0) where
+    pub carry-fits : (x : ℕ) → x ≡ q * getD t j 0 → Fits w64 (carry + x)
+    carry-fits x f = omega (arith, entry-small d)
 
-    pub entry-fits : (a b : ℕ) → a ≡ q * getD t j 0 → b ≡ getD u i 0 * getD v j 0 → Fits w64 (carry + a + b)
-    entry-fits a b f g = omega (arith, entry-small)
+    pub entry-fits : (x y : ℕ) → x ≡ q * getD t j 0 → y ≡ c * getD v j 0 → Fits w64 (carry + x + y)
+    entry-fits x y f g = omega (arith, entry-small d)
 
 -- turn j writes entry j of the next step
 pub step-turn : (q c carry a b j : ℕ) (t v w w′ : List ℕ) → carry ≡ getD (0 ∷ w) j 0 → a ≡ q * getD t j 0 → b ≡ c * getD v j 0
@@ -74,24 +74,20 @@ pub carry-turn : (f : ℕ → ℕ) (j : ℕ) (w w′ : List ℕ) → w′ ≡ pa
 carry-turn f j w w′ e = rw (add-one j, e) (painted-above w f j j (omega arith))
 
 -- the loop's end
-pub step-done : (p n i j q : ℕ) (t u v w w′ : List ℕ) → 2 ≤ p → p ≤ 2 ^ 20 → n ≤ 16 → i < n → Holds p n t → Holds p n u → Holds p n v
-    → q ≤ 3 * 2 ^ 20 → (q + getD w (n - 1) 0) % p ≡ 0
-    → Delayed p n (n - (i + 1)) (product p (take n t) (drop (i + 1) (take n u)) (take n v)) w
-    → j ≤ n → n ≤ j → w′ ≡ painted w (term q (getD u i 0) 0 t v w) j
-    → Delayed p n (n - i) (product p (take n t) (drop i (take n u)) (take n v)) w′
-step-done p n i j q t u v w w′ big f g h x y z b o d l l′ e =
-    let entry : ℕ → ℕ = term q (getD u i 0) 0 t v w in
+pub step-done : (p n j q c : ℕ) (t v w w′ : List ℕ) → 2 ≤ p → p ≤ 2 ^ 20 → 1 ≤ n → n ≤ 16 → c < p → Holds p n t → Holds p n v
+    → q ≤ 3 * 2 ^ 20 → (q + getD w (n - 1) 0) % p ≡ 0 → j ≤ n → n ≤ j → w′ ≡ painted w (term q c 0 t v w) j
+    → (k : ℕ) → (a : List ℕ) → Delayed p n k a w → Delayed p n (k + 1) (sum p (scale p c (take n v)) (timesX p (take n t) a)) w′
+step-done p n j q c t v w w′ big f pos g h x z b o l l′ e k a d =
+    let entry : ℕ → ℕ = term q c 0 t v w in
     let same : j ≡ n = omega arith in
     let whole : w′ ≡ padded (table entry n) = e ∙ ap (painted w entry) same ∙ painted-array n entry w g (d .zeros) in
     let front : take n w′ ≡ table entry n = ap (take n) whole ∙ take-padded n (table entry n) (table-length entry n) in
     record {
       words =
           ap (reduced p) front
-          ∙ step-mod p q (getD u i 0) n t v w (omega arith) (omega arith) (array-fits n t g (x .zeros)) (array-fits n v g (z .zeros)) (array-fits n w g (d .zeros)) o
-          ∙ ap (λ s. sum p (scale p (getD u i 0) (take n v)) (timesX p (take n t) s)) (d .words)
-          ∙ sym (product-at p n i (take n t) u (take n v) h (array-fits n u g (y .zeros)));
-      small = subst (All (λ a. a ≤ (n - i) * 2 ^ 42)) (sym front)
-          (all-table (λ a. a ≤ (n - i) * 2 ^ 42) entry n
-          (λ k m. unfold term in entry-small p n i k q t u v f g b x y z h m (getD (0 ∷ w) k 0) w (product p (take n t) (drop (i + 1) (take n u)) (take n v)) d refl));
+          ∙ step-mod p q c n t v w (omega arith) pos (array-fits n t g (x .zeros)) (array-fits n v g (z .zeros)) (array-fits n w g (d .zeros)) o
+          ∙ ap (λ s. sum p (scale p c (take n v)) (timesX p (take n t) s)) (d .words);
+      small = subst (All (λ a. a ≤ (k + 1) * 2 ^ 42)) (sym front)
+          (all-table (λ a. a ≤ (k + 1) * 2 ^ 42) entry n (λ i m. unfold term in entry-small p n i q c t v f g b x z h m d));
       zeros = whole ∙ ap padded (sym front);
     }

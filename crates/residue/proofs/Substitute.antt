@@ -1,6 +1,6 @@
 -- Substitution by Horner's rule on arrays: w ↦ S·w + c, where adding the constant c changes the lowest word only.
 use mathlib.Core.Path.{_≡_, refl, sym, ap, ap₂, _∙_}
-use mathlib.Core.List.{List, _∷_}
+use mathlib.Core.List.{List, [], _∷_}
 use Prim.Native.Nat.{ℕ, zero, suc, _+_, _-_, _%_, _^_, _≤_, _<_}
 use native.Mathlib.Nat as Nat
 use native.Mathlib.Omega.{arith}
@@ -9,9 +9,13 @@ use lib.Seq.{drop-cons, getD-take}
 use mir.Syntax.{w64}
 use mir.Val.{Fits}
 use Rattle.quotient.specs.Residue.{Words, none, more, sum, constant, product, substitute}
-use Rattle.quotient.proofs.Words.{words-length, constant-zero, product-words, substitute-words}
+use Rattle.algebra.proofs.RingLaws.{mul-zero}
+use Rattle.quotient.proofs.Sums.{sum-zero}
+use Rattle.quotient.proofs.Words.{words-length, constant-words, product-words, substitute-words}
+use Rattle.quotient.proofs.Ring.{residueRing, mulResidue, zeroResidue, constantResidue}
 use Rattle.quotient.specs.Array.{padded, Holds}
-use Rattle.quotient.proofs.Padded.{padded-zeros, holds-word, holds-is, front-is}
+use Rattle.quotient.proofs.Padded.{holds-word, holds-is, front-is}
+use Rattle.residue.proofs.Power.{constant-array}
 
 zeros-sum : {p n : ℕ} {u : List ℕ} → Words p n u → sum p (replicate n 0) u ≡ u
 unfolding sum
@@ -38,15 +42,25 @@ substitute-at p n i t s u h l m =
     ap (substitute p t s) (drop-cons (take n u) (i - 1) 0 (omega arith))
     ∙ ap₂ (λ a k. sum p (constant (length t) a) (product p t s (substitute p t s (drop k (take n u))))) (getD-take n u (i - 1) 0 (omega arith)) e
 
--- before the first turn: no word of u, and zeros
-pub substitute-starts : (p n : ℕ) (t s u : List ℕ) → n ≤ 16 → Holds p n t → Holds p n u
-    → replicate 16 0 ≡ padded (substitute p (take n t) (take n s) (drop n (take n u)))
+-- before the first turn: the top word of u, as a constant
+
+product-zero : {p n : ℕ} {t s : List ℕ} → 2 ≤ p → Words p n t → Words p n s → product p t s (constant n 0) ≡ constant n 0
+unfolding residueRing mulResidue zeroResidue constantResidue
+product-zero {s = s} big wt ws = ap (λ x. x .0) (mul-zero (residueRing big wt) (s, ws))
+
+pub substitute-starts : (p n : ℕ) (t s u : List ℕ) → 2 ≤ p → 1 ≤ n → n ≤ 16 → Holds p n t → Holds p n s → Holds p n u
+    → set (replicate 16 0) 0 (getD u (n - 1) 0) ≡ padded (substitute p (take n t) (take n s) (drop (n - 1) (take n u)))
 unfolding substitute
-substitute-starts p n t s u h x z =
-    padded-zeros n h
+substitute-starts p n t s u big h l x y z =
+    let c : ℕ = getD u (n - 1) 0 in
+    let none : drop n (take n u) ≡ [] = drop-of-length-le (take n u) (Nat.le-of-eq (words-length (z .words))) in
+    constant-array n c h l
     ∙ ap padded
-    (sym (constant-zero n) ∙ ap (λ k. constant k 0) (sym (words-length (x .words)))
-    ∙ ap (substitute p (take n t) (take n s)) (sym (drop-of-length-le (take n u) (Nat.le-of-eq (words-length (z .words))))))
+    (sym (sum-zero (constant-words n (holds-word z (n - 1) (omega arith))))
+    ∙ ap (sum p (constant n c)) (sym (product-zero big (x .words) (y .words)))
+    ∙ ap (λ k. sum p (constant k c) (product p (take n t) (take n s) (constant k 0))) (sym (words-length (x .words)))
+    ∙ ap (λ l. sum p (constant (length (take n t)) c) (product p (take n t) (take n s) (substitute p (take n t) (take n s) l))) (sym none)
+    ∙ sym (substitute-at p n n (take n t) (take n s) u h (Nat.le-refl n) (words-length (z .words))))
 
 pub substitute-done : (p i : ℕ) (t s u w : List ℕ) → i ≤ 0 → w ≡ padded (substitute p t s (drop i u)) → w ≡ padded (substitute p t s u)
 substitute-done p i t s u w h e =

@@ -1,12 +1,19 @@
 -- Words whose reduction modulo p is put off, inside the product of two residues.
+--   Modulus p k r        2 ≤ p ≤ 2^20, p·k is the largest multiple of p up to 2^20, and r its reciprocal, by which words are reduced
 --   reduced p u          each word of u modulo p
 --   Delayed p n k s xs   the array xs holds n words that are s modulo p, each at most k·2^42, and zeros after them
 use mathlib.Core.Path.{_≡_}
 use mathlib.Core.List.{List, [], _∷_}
-use Prim.Native.Nat.{ℕ, _*_, _%_, _^_, _≤_}
+use Prim.Native.Nat.{ℕ, _*_, _/_, _%_, _^_, _≤_}
 use lib.ListN.{take}
 use Rattle.algebra.specs.Lists.{All}
 use Rattle.quotient.specs.Array.{padded}
+
+pub record Modulus (p k r : ℕ) : Type 0 where
+  pub big : 2 ≤ p
+  pub small : p ≤ 2 ^ 20
+  pub multiplier : k ≡ 2 ^ 20 / p
+  pub reciprocal : r ≡ 2 ^ 54 / (p * k)
 
 unfoldable pub reduced : ℕ → List ℕ → List ℕ
 reduced p [] = []

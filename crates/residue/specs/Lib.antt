@@ -1,4 +1,5 @@
--- What the contracts on residues cite beside the definitions of the crate quotient: arrays that hold a residue, and the calls' answers.
+-- What the contracts on residues cite beside the definitions of the crate quotient: the calls' answers, words whose reduction is put off, and
+-- the matrix of the powers.
 pub mod Calls
 pub mod Delayed
-pub mod Table
+pub mod Matrix

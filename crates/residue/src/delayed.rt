@@ -2,6 +2,23 @@
 // through its reciprocal 2^54 / m.
 ghost use mathlib.Core.Path.{_≡_};
 ghost use Prim.Native.Nat.{_+_, _*_, _/_, _%_, _^_, _≤_, _<_};
+ghost use Rattle.residue.specs.Delayed.{Modulus};
+
+// The k of m = p·k.
+pub fn multiplier(p: u64) -> u64
+    requires { ⌜ 2 ≤ p ⌝ }
+    ensures { λ k. ⌜ k ≡ 2 ^ 20 / p ⌝ }
+{
+    1048576 / p
+}
+
+// The reciprocal of m = p·k.
+pub fn reciprocal(p: u64, k: u64) -> u64
+    requires { ⌜ (2 ≤ p) × (p ≤ 2 ^ 20) × (k ≡ 2 ^ 20 / p) ⌝ }
+    ensures { λ r. ⌜ Modulus p k r ⌝ }
+{
+    18014398509481984 / (p * k)
+}
 
 // The product of two numbers of 32 bits. The casts let the compiler multiply several such pairs at once.
 pub fn times(a: u64, b: u64) -> u64
@@ -12,26 +29,26 @@ pub fn times(a: u64, b: u64) -> u64
 }
 
 // A number below 3·m that is x modulo m.
-fn rest(m: u64, reciprocal: u64, x: u64) -> u64
-    requires { ⌜ (2 ^ 19 ≤ m) × (m ≤ 2 ^ 20) × (reciprocal ≡ 2 ^ 54 / m) × (x ≤ 2 ^ 46) ⌝ }
-    ensures { λ r. ⌜ (r < 3 * m) × (r % m ≡ x % m) ⌝ }
+fn rest(m: u64, r: u64, x: u64) -> u64
+    requires { ⌜ (2 ^ 19 ≤ m) × (m ≤ 2 ^ 20) × (r ≡ 2 ^ 54 / m) × (x ≤ 2 ^ 47) ⌝ }
+    ensures { λ y. ⌜ (y < 3 * m) × (y % m ≡ x % m) ⌝ }
 {
-    x - x / 524288 * reciprocal / 34359738368 * m
+    x - x / 524288 * r / 34359738368 * m
 }
 
 // A number q with q + x = 0 modulo p.
-pub fn opposite(p: u64, k: u64, reciprocal: u64, x: u64) -> u64
-    requires { ⌜ (2 ≤ p) × (p ≤ 2 ^ 20) × (k ≡ 2 ^ 20 / p) × (reciprocal ≡ 2 ^ 54 / (p * k)) × (x ≤ 2 ^ 46) ⌝ }
+pub fn opposite(p: u64, k: u64, r: u64, x: u64) -> u64
+    requires { ⌜ Modulus p k r × (x ≤ 2 ^ 47) ⌝ }
     ensures { λ q. ⌜ (q ≤ 3 * 2 ^ 20) × ((q + x) % p ≡ 0) ⌝ }
 {
     let m = p * k;
-    3 * m - rest(m, reciprocal, x)
+    3 * m - rest(m, r, x)
 }
 
 // x modulo p.
-pub fn remainder(p: u64, k: u64, reciprocal: u64, x: u64) -> u64
-    requires { ⌜ (2 ≤ p) × (p ≤ 2 ^ 20) × (k ≡ 2 ^ 20 / p) × (reciprocal ≡ 2 ^ 54 / (p * k)) × (x ≤ 2 ^ 46) ⌝ }
-    ensures { λ r. ⌜ r ≡ x % p ⌝ }
+pub fn remainder(p: u64, k: u64, r: u64, x: u64) -> u64
+    requires { ⌜ Modulus p k r × (x ≤ 2 ^ 47) ⌝ }
+    ensures { λ y. ⌜ y ≡ x % p ⌝ }
 {
-    rest(p * k, reciprocal, x) % p
+    rest(p * k, r, x) % p
 }

@@ -2,12 +2,12 @@
 //   call      the public calls on lent lists, without any `requires`
 //   refusal   the refusals that they share
 //   ring      the same on arrays of 16 words, for the crates above
-//   table     the powers of a residue, worked out once for many substitutions
+//   matrix    the powers of a residue as a matrix, worked out once for many substitutions
 //   delayed   arithmetic for sums of products
 //   array     lists of words into arrays, and back
 pub mod array;
 pub mod call;
 mod delayed;
+pub mod matrix;
 pub mod refusal;
 pub mod ring;
-pub mod table;

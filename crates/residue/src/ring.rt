@@ -1,33 +1,27 @@
-// The ring of residues modulo T, on arrays of 16 words: n words below p, and zeros after them.
+// The ring of residues modulo T, on arrays of 16 words: n words below p, and zeros after them. The functions that reduce words take the three
+// numbers that this needs, `Modulus p k r`; the calls for other modules work them out once.
+use crate::delayed::multiplier;
 use crate::delayed::opposite;
+use crate::delayed::reciprocal;
 use crate::delayed::remainder;
 use crate::delayed::times;
 ghost use mathlib.Core.Path.{_≡_};
-ghost use Prim.Native.Nat.{_+_, _-_, _*_, _/_, _%_, _^_, _≤_, _<_};
-ghost use lib.ListN.{getD, take, drop};
-ghost use Rattle.quotient.specs.Residue.{constant, product as productOf, power as powerOf, residueOfX, timesX, substitute as substituteOf};
+ghost use mathlib.Core.List.{List};
+ghost use Prim.Native.Nat.{ℕ, _+_, _-_, _*_, _/_, _%_, _^_, _≤_, _<_};
+ghost use lib.ListN.{getD, take, replicate};
+ghost use Rattle.quotient.specs.Residue.{sum, scale, constant, timesX, product as productOf, power as powerOf, residueOfX, substitute as substituteOf};
 ghost use Rattle.quotient.specs.Array.{padded, Holds};
-ghost use Rattle.residue.specs.Delayed.{reduced, Delayed};
+ghost use Rattle.residue.specs.Delayed.{Modulus, reduced, Delayed};
 
-// One step of Horner's rule: w becomes X·w + u[i]·v. Its top word goes out as q·t, where q is the opposite of the top word modulo p; no other
+// One step of Horner's rule: w becomes X·w + c·v. Its top word goes out as q·t, where q is the opposite of the top word modulo p; no other
 // word is reduced.
-fn step(
-    p: u64,
-    n: usize,
-    t: &[u64; 16],
-    u: &[u64; 16],
-    v: &[u64; 16],
-    i: usize,
-    q: u64,
-    w: &mut [u64; 16],
-)
-    requires { ⌜ (2 ≤ p) × (p ≤ 2 ^ 20) × (n ≤ 16) × (i < n) ⌝ }
-    requires { ⌜ Holds p n (now t) × Holds p n (now u) × Holds p n (now v) ⌝ }
+fn step(p: u64, n: usize, t: &[u64; 16], c: u64, v: &[u64; 16], q: u64, w: &mut [u64; 16])
+    requires { ⌜ (2 ≤ p) × (p ≤ 2 ^ 20) × (1 ≤ n) × (n ≤ 16) × (c < p) ⌝ }
+    requires { ⌜ Holds p n (now t) × Holds p n (now v) ⌝ }
     requires { ⌜ (q ≤ 3 * 2 ^ 20) × ((q + getD (now w) (n - 1) 0) % p ≡ 0) ⌝ }
-    requires { ⌜ Delayed p n (n - (i + 1)) (productOf p (take n (now t)) (drop (i + 1) (take n (now u))) (take n (now v))) (now w) ⌝ }
-    ensures { λ _. ⌜ Delayed p n (n - i) (productOf p (take n (now (t .entry))) (drop i (take n (now (u .entry)))) (take n (now (v .entry)))) (now (w .exit)) ⌝ }
+    requires { ⌜ Delayed p n 16 (reduced p (take n (now w))) (now w) ⌝ }
+    ensures { λ _. ⌜ ((k : ℕ) (a : List ℕ) → Delayed p n k a (now (w .entry)) → Delayed p n (k + 1) (sum p (scale p c (take n (now (v .entry)))) (timesX p (take n (now (t .entry))) a)) (now (w .exit))) ⌝ }
 {
-    let c = u[i];
     let mut carry = 0;
     let mut j = 0;
     while j < n {
@@ -38,36 +32,72 @@ fn step(
     }
 }
 
+// u·v modulo T into w, which is 0, by Horner's rule in u; the words of w are not reduced.
+fn accumulate(
+    p: u64,
+    k: u64,
+    r: u64,
+    n: usize,
+    t: &[u64; 16],
+    u: &[u64; 16],
+    v: &[u64; 16],
+    w: &mut [u64; 16],
+)
+    requires { ⌜ Modulus p k r × (1 ≤ n) × (n ≤ 16) ⌝ }
+    requires { ⌜ Holds p n (now t) × Holds p n (now u) × Holds p n (now v) ⌝ }
+    requires { ⌜ now w ≡ replicate 16 0 ⌝ }
+    ensures { λ _. ⌜ Delayed p n n (productOf p (take n (now (t .entry))) (take n (now (u .entry))) (take n (now (v .entry)))) (now (w .exit)) ⌝ }
+{
+    let mut i = n;
+    while i > 0 {
+        i -= 1;
+        let q = opposite(p, k, r, w[n - 1]);
+        step(p, n, t, u[i], v, q, w);
+    }
+}
+
 // Takes each word of w modulo p.
-fn reduce(p: u64, k: u64, reciprocal: u64, n: usize, w: &mut [u64; 16])
-    requires { ⌜ (2 ≤ p) × (p ≤ 2 ^ 20) × (k ≡ 2 ^ 20 / p) × (reciprocal ≡ 2 ^ 54 / (p * k)) × (n ≤ 16) ⌝ }
-    requires { ⌜ Delayed p n n (reduced p (take n (now w))) (now w) ⌝ }
+fn reduce(p: u64, k: u64, r: u64, n: usize, w: &mut [u64; 16])
+    requires { ⌜ Modulus p k r × (n ≤ 16) ⌝ }
+    requires { ⌜ Delayed p n 17 (reduced p (take n (now w))) (now w) ⌝ }
     ensures { λ _. ⌜ now (w .exit) ≡ padded (reduced p (take n (now (w .entry)))) ⌝ }
 {
     let mut j = 0;
     while j < n {
-        w[j] = remainder(p, k, reciprocal, w[j]);
+        w[j] = remainder(p, k, r, w[j]);
         j += 1;
     }
 }
 
-// u·v modulo T, by Horner's rule in u: the words of the sum are reduced once, at the end.
+// u·v modulo T: the words of the sum are reduced once, at the end.
+pub fn multiply(
+    p: u64,
+    k: u64,
+    r: u64,
+    n: usize,
+    t: &[u64; 16],
+    u: &[u64; 16],
+    v: &[u64; 16],
+) -> [u64; 16]
+    requires { ⌜ Modulus p k r × (1 ≤ n) × (n ≤ 16) ⌝ }
+    requires { ⌜ Holds p n (now t) × Holds p n (now u) × Holds p n (now v) ⌝ }
+    ensures { λ w. ⌜ w ≡ padded (productOf p (take n (now (t .entry))) (take n (now (u .entry))) (take n (now (v .entry)))) ⌝ }
+{
+    let mut w = [0; 16];
+    accumulate(p, k, r, n, t, u, v, &mut w);
+    reduce(p, k, r, n, &mut w);
+    w
+}
+
+// u·v modulo T.
 pub fn product(p: u64, n: usize, t: &[u64; 16], u: &[u64; 16], v: &[u64; 16]) -> [u64; 16]
     requires { ⌜ (2 ≤ p) × (p ≤ 2 ^ 20) × (1 ≤ n) × (n ≤ 16) ⌝ }
     requires { ⌜ Holds p n (now t) × Holds p n (now u) × Holds p n (now v) ⌝ }
     ensures { λ r. ⌜ r ≡ padded (productOf p (take n (now (t .entry))) (take n (now (u .entry))) (take n (now (v .entry)))) ⌝ }
 {
-    let k = 1048576 / p;
-    let reciprocal = 18014398509481984 / (p * k);
-    let mut w = [0; 16];
-    let mut i = n;
-    while i > 0 {
-        i -= 1;
-        let q = opposite(p, k, reciprocal, w[n - 1]);
-        step(p, n, t, u, v, i, q, &mut w);
-    }
-    reduce(p, k, reciprocal, n, &mut w);
-    w
+    let k = multiplier(p);
+    let r = reciprocal(p, k);
+    multiply(p, k, r, n, t, u, v)
 }
 
 // The constant 1.
@@ -95,22 +125,44 @@ pub fn residue_of_x(p: u64, n: usize, t: &[u64; 16]) -> [u64; 16]
     w
 }
 
-// u^k modulo T, from the power to half the exponent.
-pub fn power(p: u64, n: usize, t: &[u64; 16], u: &[u64; 16], k: u64) -> [u64; 16]
-    requires { ⌜ (2 ≤ p) × (p ≤ 2 ^ 20) × (1 ≤ n) × (n ≤ 16) ⌝ }
+// u^e modulo T, from the power to half the exponent.
+fn power_by_halving(
+    p: u64,
+    k: u64,
+    r: u64,
+    n: usize,
+    t: &[u64; 16],
+    u: &[u64; 16],
+    e: u64,
+) -> [u64; 16]
+    requires { ⌜ Modulus p k r × (1 ≤ n) × (n ≤ 16) ⌝ }
     requires { ⌜ Holds p n (now t) × Holds p n (now u) ⌝ }
-    ensures { λ r. ⌜ r ≡ padded (powerOf p (take n (now (t .entry))) (take n (now (u .entry))) k) ⌝ }
+    ensures { λ w. ⌜ w ≡ padded (powerOf p (take n (now (t .entry))) (take n (now (u .entry))) e) ⌝ }
 {
-    if k == 0 {
+    if e == 0 {
         return one(n);
     }
-    let half = power(p, n, t, u, k / 2);
-    let square = product(p, n, t, &half, &half);
-    if k % 2 == 0 {
+    if e == 1 {
+        return *u;
+    }
+    let half = power_by_halving(p, k, r, n, t, u, e / 2);
+    let square = multiply(p, k, r, n, t, &half, &half);
+    if e % 2 == 0 {
         square
     } else {
-        product(p, n, t, u, &square)
+        multiply(p, k, r, n, t, u, &square)
     }
+}
+
+// u^e modulo T.
+pub fn power(p: u64, n: usize, t: &[u64; 16], u: &[u64; 16], e: u64) -> [u64; 16]
+    requires { ⌜ (2 ≤ p) × (p ≤ 2 ^ 20) × (1 ≤ n) × (n ≤ 16) ⌝ }
+    requires { ⌜ Holds p n (now t) × Holds p n (now u) ⌝ }
+    ensures { λ r. ⌜ r ≡ padded (powerOf p (take n (now (t .entry))) (take n (now (u .entry))) e) ⌝ }
+{
+    let k = multiplier(p);
+    let r = reciprocal(p, k);
+    power_by_halving(p, k, r, n, t, u, e)
 }
 
 // X·u modulo T: the words of u one place higher, and the opposite of the top word times t.
@@ -158,18 +210,38 @@ pub fn power_of_x(p: u64, n: usize, t: &[u64; 16]) -> [u64; 16]
     monomial(p, n, t, p)
 }
 
-// u(S) modulo T, by Horner's rule.
+// u(S) modulo T, by Horner's rule from the top word of u.
+fn horner(
+    p: u64,
+    k: u64,
+    r: u64,
+    n: usize,
+    t: &[u64; 16],
+    s: &[u64; 16],
+    u: &[u64; 16],
+) -> [u64; 16]
+    requires { ⌜ Modulus p k r × (1 ≤ n) × (n ≤ 16) ⌝ }
+    requires { ⌜ Holds p n (now t) × Holds p n (now s) × Holds p n (now u) ⌝ }
+    ensures { λ w. ⌜ w ≡ padded (substituteOf p (take n (now (t .entry))) (take n (now (s .entry))) (take n (now (u .entry)))) ⌝ }
+{
+    let mut w = [0; 16];
+    w[0] = u[n - 1];
+    let mut i = n - 1;
+    while i > 0 {
+        i -= 1;
+        w = multiply(p, k, r, n, t, s, &w);
+        w[0] = (w[0] + u[i]) % p;
+    }
+    w
+}
+
+// u(S) modulo T.
 pub fn substitute(p: u64, n: usize, t: &[u64; 16], s: &[u64; 16], u: &[u64; 16]) -> [u64; 16]
     requires { ⌜ (2 ≤ p) × (p ≤ 2 ^ 20) × (1 ≤ n) × (n ≤ 16) ⌝ }
     requires { ⌜ Holds p n (now t) × Holds p n (now s) × Holds p n (now u) ⌝ }
     ensures { λ r. ⌜ r ≡ padded (substituteOf p (take n (now (t .entry))) (take n (now (s .entry))) (take n (now (u .entry)))) ⌝ }
 {
-    let mut w = [0; 16];
-    let mut i = n;
-    while i > 0 {
-        i -= 1;
-        w = product(p, n, t, s, &w);
-        w[0] = (w[0] + u[i]) % p;
-    }
-    w
+    let k = multiplier(p);
+    let r = reciprocal(p, k);
+    horner(p, k, r, n, t, s, u)
 }

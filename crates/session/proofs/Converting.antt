@@ -15,11 +15,11 @@ use borrow.Rule.Slice.PartMut.{putMid, postOf, same-len-mid}
 use Rattle.algebra.specs.Lists.{range}
 use Rattle.quotient.specs.Residue.{Words, none, more, substitute}
 use Rattle.quotient.proofs.Words.{words-length, substitute-words}
-use Rattle.quotient.specs.Array.{padded, Holds}
-use Rattle.residue.specs.Table.{Powers, Table, column, combination}
+use Rattle.quotient.specs.Array.{padded, Holds, Square, rowProduct}
+use Rattle.residue.specs.Matrix.{Powers, matrixProduct}
 use Rattle.residue.proofs.Answers.{words-up}
-use Rattle.residue.proofs.Combination.{table-of-powers, combination-is}
-use Rattle.quotient.proofs.Padded.{holds-is, padded-length, take-padded}
+use Rattle.residue.proofs.PowerMatrix.{powers-square, product-substitutes}
+use Rattle.quotient.proofs.Padded.{holds-is, front-is, take-padded}
 use Rattle.session.specs.Session.{converted, tableNumber}
 use Rattle.session.proofs.Groups.{take-words, drop-words}
 use Rattle.session.proofs.Table.{Convertible, table-given}
@@ -35,31 +35,31 @@ pub record Progress (p n : ℕ) (t s table out m : List ℕ) (i : ℕ) : Type 0 
 
 -- one group
 
-combination-words-from : (p n i k : ℕ) (m u : List ℕ) → 0 < p → Words p k (map (λ i. column m u i n % p) (range i k))
+product-words-from : (p i k : ℕ) (m u : List ℕ) → 0 < p → Words p k (map (λ i. rowProduct m i 0 u % p) (range i k))
 unfolding range
-combination-words-from p n i zero m u h = none
-combination-words-from p n i (suc k) m u h = more (Nat.mod-lt _ h) (combination-words-from p n (suc i) k m u h)
+product-words-from p i zero m u h = none
+product-words-from p i (suc k) m u h = more (Nat.mod-lt _ h) (product-words-from p (suc i) k m u h)
 
-combination-words : (p n : ℕ) (m u : List ℕ) → 0 < p → Words p n (combination p n m u)
-unfolding combination
-combination-words p n m u h = combination-words-from p n 0 n m u h
+product-words : (p n : ℕ) (m u : List ℕ) → 0 < p → Words p n (matrixProduct p n m u)
+unfolding matrixProduct
+product-words p n m u h = product-words-from p 0 n m u h
 
 pub group-short : (p n : ℕ) (group : List ℕ) → n ≤ 16 → Words p n group → length group ≤ 16
 group-short p n group h w = rw (words-length w) h
 
 module _ (p n : ℕ) where
-  pub combination-holds : (m u w : List ℕ) → 2 ≤ p → w ≡ padded (combination p n m u) → Holds p n w
-  combination-holds m u w big e = holds-is e (combination-words p n m u (omega arith))
+  pub product-holds : (m u w : List ℕ) → 2 ≤ p → w ≡ padded (matrixProduct p n m u) → Holds p n w
+  product-holds m u w big e = holds-is e (product-words p n m u (omega arith))
 
   pub store-holds : (k : ℕ) (w : List ℕ) → p ≤ 2 ^ 16 → k ≡ n → Holds p n w → Holds (2 ^ 16) k w
   store-holds k w small l h = rw l (record { words = words-up small (h .words); zeros = h .zeros })
 
-  pub group-done : (k : ℕ) (m group u w out : List ℕ) → 2 ≤ p → k ≡ n → u ≡ padded group → w ≡ padded (combination p n m u) → out ≡ take k w
-      → out ≡ combination p n m (padded group)
-  group-done k m group u w out big l e f h =
+  pub group-done : (k : ℕ) (m group u w out : List ℕ) → 2 ≤ p → k ≡ n → Words p n group → u ≡ padded group → w ≡ padded (matrixProduct p n m (take n u)) → out ≡ take k w
+      → out ≡ matrixProduct p n m group
+  group-done k m group u w out big l words e f h =
       h ∙ ap₂ take l f
-      ∙ take-padded n (combination p n m u) (words-length (combination-words p n m u (omega arith)))
-      ∙ ap (combination p n m) e
+      ∙ take-padded n (matrixProduct p n m (take n u)) (words-length (product-words p n m (take n u) (omega arith)))
+      ∙ ap (matrixProduct p n m) (front-is e words)
 
 -- whole groups: what is left has another one, and one less behind it
 
@@ -89,8 +89,8 @@ module _ (p n : ℕ) (t s table out m : List ℕ) (i : ℕ) (g : Progress p n t 
 -- a turn
 module _ (p n : ℕ) (t s table out₀ out m : List ℕ) (i : ℕ) (size : (2 ≤ p) × (p ≤ 2 ^ 16) × (1 ≤ n) × (n ≤ 16)) (x : Holds p n t) (y : Holds p n s)
     (h : tableNumber p n table out₀ ≡ 0) (g : Progress p n t s table out m i) (l : i < length table) where
-  pub powers-are-table : Table p n m
-  powers-are-table = table-of-powers p n t s m (size .0) (size .3) x y (g .powers)
+  pub powers-are-square : Square p n m
+  powers-are-square = powers-square (size .0) (x .words) (y .words) (g .powers)
 
   group-words : Words p n (take n (drop i table))
   group-words = take-words (drop-words (table-given p n table out₀ h .words) i) n (omega (arith, group-ends p n t s table out m i g l))
@@ -98,7 +98,7 @@ module _ (p n : ℕ) (t s table out₀ out m : List ℕ) (i : ℕ) (size : (2 �
   pub part-words : Words p n (take (i + n - i) (drop i table))
   part-words = rw (part i n table) group-words
 
-  module _ (z : List ℕ) (d : z ≡ combination p n m (padded (take (i + n - i) (drop i table)))) where
+  module _ (z : List ℕ) (d : z ≡ matrixProduct p n m (take (i + n - i) (drop i table))) where
     image : List ℕ
     image = substitute p (take n t) (take n s) (take n (drop i table))
 
@@ -108,14 +108,7 @@ module _ (p n : ℕ) (t s table out₀ out m : List ℕ) (i : ℕ) (size : (2 �
 
     is-image : z ≡ image
     unfolding image
-    is-image =
-        let u : List ℕ = padded (take n (drop i table)) in
-        let front : take n u ≡ take n (drop i table) = take-padded n (take n (drop i table)) (words-length group-words) in
-        d ∙ ap (λ v. combination p n m (padded v)) (part i n table)
-        ∙ combination-is p n (take n t) (take n s) m (size .0) (x .words) (y .words) (g .powers) u
-        (rw (padded-length (take n (drop i table)) (rw (words-length group-words) (size .3))) (size .3))
-        (rw front group-words)
-        ∙ ap (substitute p (take n t) (take n s)) front
+    is-image = d ∙ ap (matrixProduct p n m) (part i n table) ∙ product-substitutes (size .0) (x .words) (y .words) (g .powers) group-words
 
     image-length : length z ≡ n
     image-length = ap length is-image ∙ words-length image-words

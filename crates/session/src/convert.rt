@@ -6,26 +6,26 @@ use crate::refusal::table_number;
 use crate::view::counts_as;
 use residue::array::load;
 use residue::array::store;
-use residue::table::combine;
-use residue::table::powers;
+use residue::matrix::apply;
+use residue::matrix::powers;
 ghost use mathlib.Core.Bool.{true};
 ghost use mathlib.Core.List.{[], _∷_};
 ghost use mathlib.Core.Path.{_≡_};
 ghost use Prim.Native.Nat.{_/_, _^_, _≤_};
 ghost use lib.ListN.{length, take};
 ghost use Rattle.quotient.specs.Residue.{Words};
-ghost use Rattle.quotient.specs.Array.{padded, Holds};
-ghost use Rattle.residue.specs.Table.{Table, combination};
+ghost use Rattle.quotient.specs.Array.{Holds, Square};
+ghost use Rattle.residue.specs.Matrix.{matrixProduct};
 ghost use Rattle.session.specs.Session.{view, whole, converted, tableNumber, convertNumber, convert as convertOf, forwardOutput, backOutput};
 
-// The image of a group of n words, by a table of the powers of S.
+// The image of a group of n words, by the matrix of the powers of S.
 fn convert_group(p: u64, n: usize, m: &[u64; 256], group: &[u16], out: &mut [u16])
     requires { ⌜ (2 ≤ p) × (p ≤ 2 ^ 16) × (n ≤ 16) × (length (now out) ≡ n) ⌝ }
-    requires { ⌜ Table p n (now m) × Words p n (now group) ⌝ }
-    ensures { λ _. ⌜ now (out .exit) ≡ combination p n (now (m .entry)) (padded (now (group .entry))) ⌝ }
+    requires { ⌜ Square p n (now m) × Words p n (now group) ⌝ }
+    ensures { λ _. ⌜ now (out .exit) ≡ matrixProduct p n (now (m .entry)) (now (group .entry)) ⌝ }
 {
     let u = load(group);
-    let w = combine(p, n, m, &u);
+    let w = apply(p, n, m, &u);
     store(&w, out);
 }
 
@@ -36,7 +36,8 @@ fn convert(p: u64, n: usize, t: &[u64; 16], s: &[u64; 16], table: &[u16], out: &
     requires { ⌜ tableNumber p n (now table) (now out) ≡ 0 ⌝ }
     ensures { λ _. ⌜ now (out .exit) ≡ converted p n (take n (now (t .entry))) (take n (now (s .entry))) (length (now (table .entry)) / n) (now (table .entry)) ⌝ }
 {
-    let m = powers(p, n, t, s);
+    let mut m = [0; 256];
+    powers(p, n, t, s, &mut m);
     let mut i = 0;
     while i < table.len() {
         let e = i + n;

@@ -8,7 +8,7 @@ zeta-requires : tie.Need-zeta-requires
 zeta-requires c κs = search needs
 
 eigenvector-requires : tie.Need-eigenvector-requires
-eigenvector-requires c κs = (search needs, ((search needs, search zeta-has-order), search needs))
+eigenvector-requires c κs = (search needs, ((search needs, search zeta-has-order), (search needs, search needs)))
 
 refusal-requires : tie.Need-refusal-requires
 refusal-requires c κs = search needs
@@ -17,7 +17,7 @@ returns : tie.Need-returns
 returns c = search refused-first
 
 eigenvector-requires-2 : tie.Need-eigenvector-requires-2
-eigenvector-requires-2 c κs = (search needs, ((search needs, search zeta-has-order), search needs))
+eigenvector-requires-2 c κs = (search needs, ((search needs, search zeta-has-order), (search needs, search needs)))
 
 refusal-requires-2 : tie.Need-refusal-requires-2
 refusal-requires-2 c κs = search needs
@@ -27,9 +27,10 @@ returns-2 c = search refused-second
 
 pair-requires : tie.Need-pair-requires
 pair-requires c κs =
-    let first = found-answer _ _ _ _ _ _ _ (c .before .before .before .before .before .eigenvector .ensures) (c .before .before .before .if1 .left) in
-    let second = found-answer _ _ _ _ _ _ _ (c .before .before .eigenvector2 .ensures) (c .if2 .left) in
-    (search needs, (search needs, (search needs, (first, second))))
+    let tested = c .before .before .before .before .before in
+    let first = found-answer _ _ _ _ _ _ _ (tested .before .before .eigenvector .ensures .0) (tested .if1 .left) in
+    let second = found-answer _ _ _ _ _ _ _ (c .before .before .before .eigenvector2 .ensures .0) (c .before .if2 .left) in
+    (search needs, (search needs, (search needs, (search needs, (first, second)))))
 
 returns-3 : tie.Need-returns-3
 returns-3 c = search needs

@@ -8,10 +8,10 @@ ratio-requires : tie.Need-ratio-requires
 ratio-requires c κs = (search needs, ((search needs, search zeta-has-order), search ratio-solvable))
 
 forward-requires : tie.Need-forward-requires
-forward-requires c κs = (search needs, (search needs, search choices))
+forward-requires c κs = (search needs, (search needs, (search needs, search choices)))
 
 express-requires : tie.Need-express-requires
-express-requires c κs = (search needs, (search needs, ((search needs, search forward-holds), search forward-independent)))
+express-requires c κs = (search needs, (search needs, ((search needs, search forward-holds), (search needs, search forward-independent))))
 
 returns : tie.Need-returns
 returns c = search pair-is

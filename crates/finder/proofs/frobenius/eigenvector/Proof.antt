@@ -1,6 +1,6 @@
--- `eigenvector` meets its contract: the vector of the kernel decides, and normalised it is α.
+-- `eigenvector` meets its contract: the kernel has only 0, or a vector that decides.
 use borrow.Author.Needs.{needs}
-use Rattle.finder.proofs.KernelAnswer.{answer-none, kernel-not-zero, vector-holds, power-holds, answer-found}
+use Rattle.finder.proofs.KernelAnswer.{answer-none, kernel-singular}
 use Rattle.finder.proofs.frobenius.eigenvector.Statement.{statement}
 use Rattle.finder.proofs.frobenius.eigenvector.Tie as tie
 
@@ -8,31 +8,13 @@ kernel-requires : tie.Need-kernel-requires
 kernel-requires c κs = search needs
 
 returns : tie.Need-returns
-returns c = search answer-none
+returns c = (search answer-none, search needs)
 
-normalise-requires : tie.Need-normalise-requires
-normalise-requires c κs = (search needs, (search needs, (search needs, search kernel-not-zero)))
-
-power-requires : tie.Need-power-requires
-power-requires c κs = (search needs, (search needs, search vector-holds))
-
-is-constant-requires : tie.Need-is-constant-requires
-is-constant-requires c κs = (search needs, search power-holds)
-
-array-read-t14 : tie.Need-array-read-t14
-array-read-t14 c = search needs
+from-kernel-requires : tie.Need-from-kernel-requires
+from-kernel-requires c κs = (search needs, (search needs, (search needs, search kernel-singular)))
 
 returns-2 : tie.Need-returns-2
-returns-2 c = search answer-found
+returns-2 c = search needs
 
 pub eigenvector-spec : {M : Type 1} → statement M
-eigenvector-spec =
-    tie.close
-    (tie.spec
-    kernel-requires
-    returns
-    normalise-requires
-    power-requires
-    is-constant-requires
-    array-read-t14
-    returns-2)
+eigenvector-spec = tie.close (tie.spec kernel-requires returns from-kernel-requires returns-2)

@@ -6,10 +6,10 @@ use Rattle.finder.proofs.frobenius.minus.Statement.{statement}
 use Rattle.finder.proofs.frobenius.minus.Tie as tie
 
 abbrev Inv-loop : tie.InvT-loop
-Inv-loop p n z r₀ i₀ r i = Diagonal p z i r₀ r
+Inv-loop p n z m₀ i₀ m i = Diagonal p z i m₀ m
 
 abbrev μ-loop : tie.MeasureT-loop
-μ-loop p n z r₀ i₀ r i = n - i
+μ-loop p n z m₀ i₀ m i = n - i
 
 loop-holds : tie.Need-loop-holds Inv-loop μ-loop
 loop-holds c = search diagonal-start
@@ -23,17 +23,17 @@ add-k c = search needs
 mul-sub : tie.Need-mul-sub Inv-loop μ-loop
 mul-sub c = search needs
 
-array-read-sub : tie.Need-array-read-sub Inv-loop μ-loop
-array-read-sub c = search needs
+element-copy-out-sub : tie.Need-element-copy-out-sub Inv-loop μ-loop
+element-copy-out-sub c = search needs
 
 sub-requires : tie.Need-sub-requires Inv-loop μ-loop
 sub-requires c κs = (search needs, search diagonal-below, search needs)
 
-mul-r : tie.Need-mul-r Inv-loop μ-loop
-mul-r c = search needs
+mul-m : tie.Need-mul-m Inv-loop μ-loop
+mul-m c = search needs
 
-array-write-r : tie.Need-array-write-r Inv-loop μ-loop
-array-write-r c = search needs
+element-write-m : tie.Need-element-write-m Inv-loop μ-loop
+element-write-m c = search needs
 
 add-i : tie.Need-add-i Inv-loop μ-loop
 add-i c = search needs
@@ -57,10 +57,10 @@ minus-spec =
     mul-k
     add-k
     mul-sub
-    array-read-sub
+    element-copy-out-sub
     sub-requires
-    mul-r
-    array-write-r
+    mul-m
+    element-write-m
     add-i
     loop-less
     loop-again

@@ -1,25 +1,23 @@
 -- `express` meets its contract: the system is regular, and its solution is the polynomial.
 use borrow.Author.Needs.{needs}
-use Rattle.finder.proofs.PowerSystem.{columns-square, right-side, expressed}
+use Rattle.residue.proofs.PowerMatrix.{square-of-powers}
+use Rattle.finder.proofs.PowerSystem.{right-side, expressed}
 use Rattle.finder.proofs.system.express.Statement.{statement}
 use Rattle.finder.proofs.system.express.Tie as tie
 
 powers-requires : tie.Need-powers-requires
 powers-requires c κs = search needs
 
-columns-requires : tie.Need-columns-requires
-columns-requires c κs = search needs
-
 residue-of-x-requires : tie.Need-residue-of-x-requires
 residue-of-x-requires c κs = search needs
 
 solve-requires : tie.Need-solve-requires
-solve-requires c κs = (search needs, (search needs, (search columns-square, search right-side)))
+solve-requires c κs = (search needs, (search needs, (search square-of-powers, search right-side)))
 
 returns : tie.Need-returns
-returns c = search expressed
+returns c = (search expressed, search needs)
 
 pub express-spec : {M : Type 1} → statement M
 express-spec =
     tie.close
-    (tie.spec powers-requires columns-requires residue-of-x-requires solve-requires returns)
+    (tie.spec powers-requires residue-of-x-requires solve-requires returns)

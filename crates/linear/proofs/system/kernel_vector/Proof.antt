@@ -1,7 +1,7 @@
 -- `kernel_vector` fills a vector that the matrix takes to 0. The loop's invariant: the words before j are those of column c, negated.
 use borrow.Author.Needs.{needs}
 use Prim.Native.Nat.{_-_}
-use Rattle.linear.proofs.Kernel.{Filled, fill-start, fill-turn, column-below, kernel-vector, kernel-singular}
+use Rattle.linear.proofs.Kernel.{Filled, fill-start, fill-turn, column-below, kernel-holds, kernel-singular}
 use Rattle.linear.proofs.system.kernel_vector.Statement.{statement}
 use Rattle.linear.proofs.system.kernel_vector.Tie as tie
 
@@ -51,7 +51,7 @@ loop-again : tie.Need-loop-again Inv-loop μ-loop
 loop-again c = search fill-turn
 
 returns : tie.Need-returns Inv-loop μ-loop
-returns c = (search kernel-vector, search kernel-singular)
+returns c = (search kernel-holds, search kernel-singular)
 
 pub kernel-vector-spec : {M : Type 1} → statement M
 kernel-vector-spec =

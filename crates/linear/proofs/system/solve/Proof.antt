@@ -8,10 +8,10 @@ use Rattle.linear.proofs.system.solve.Statement.{statement}
 use Rattle.linear.proofs.system.solve.Tie as tie
 
 abbrev Inv-loop : tie.InvT-loop
-Inv-loop p n u a₀ v₀ c₀ a v c = (c ≤ n) × Advanced p n c a₀ v₀ a v
+Inv-loop p n m₀ u v₀ c₀ m v c = (c ≤ n) × Advanced p n c m₀ v₀ m v
 
 abbrev μ-loop : tie.MeasureT-loop
-μ-loop p n u a₀ v₀ c₀ a v c = n - c
+μ-loop p n m₀ u v₀ c₀ m v c = n - c
 
 div-u : tie.Need-div-u Inv-loop μ-loop
 div-u c = search needs
@@ -26,7 +26,7 @@ kernel-vector-requires : tie.Need-kernel-vector-requires Inv-loop μ-loop
 kernel-vector-requires c κs = (omega arith, (search needs, search no-pivot))
 
 returns : tie.Need-returns Inv-loop μ-loop
-returns c = search outcome-singular
+returns c = (search outcome-singular, search needs)
 
 eliminate-requires : tie.Need-eliminate-requires Inv-loop μ-loop
 eliminate-requires c κs =
@@ -42,7 +42,7 @@ loop-again : tie.Need-loop-again Inv-loop μ-loop
 loop-again c = (search needs, search walk-turn)
 
 returns-2 : tie.Need-returns-2 Inv-loop μ-loop
-returns-2 c = search outcome-regular
+returns-2 c = (search outcome-regular, search needs)
 
 pub solve-spec : {M : Type 1} → statement M
 solve-spec =

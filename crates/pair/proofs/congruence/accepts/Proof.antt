@@ -1,6 +1,6 @@
 -- `accepts` meets its contract: the two tests decide the four congruences.
 use borrow.Author.Needs.{needs}
-use Rattle.residue.proofs.Combination.{table-of-powers}
+use Rattle.residue.proofs.PowerMatrix.{square-of-powers}
 use Rattle.pair.proofs.TwoTests.{image-length, root-fails, inverse-decides}
 use Rattle.pair.proofs.congruence.accepts.Statement.{statement}
 use Rattle.pair.proofs.congruence.accepts.Tie as tie
@@ -14,8 +14,8 @@ is-root-requires c κs = search needs
 returns : tie.Need-returns
 returns c = search root-fails
 
-combine-requires : tie.Need-combine-requires
-combine-requires c κs = (search needs, (search table-of-powers, search needs))
+apply-requires : tie.Need-apply-requires
+apply-requires c κs = (search needs, (search square-of-powers, search needs))
 
 is-x-requires : tie.Need-is-x-requires
 is-x-requires c κs = (search needs, (search needs, search image-length))
@@ -26,4 +26,4 @@ returns-2 c = search inverse-decides
 pub accepts-spec : {M : Type 1} → statement M
 accepts-spec =
     tie.close
-    (tie.spec powers-requires is-root-requires returns combine-requires is-x-requires returns-2)
+    (tie.spec powers-requires is-root-requires returns apply-requires is-x-requires returns-2)

@@ -8,10 +8,10 @@ use Rattle.residue.proofs.ring.reduce.Statement.{statement}
 use Rattle.residue.proofs.ring.reduce.Tie as tie
 
 abbrev Inv-loop : tie.InvT-loop
-Inv-loop p k reciprocal n w₀ j₀ w j = (j ≤ n) × (w ≡ painted w₀ (remainder p w₀) j)
+Inv-loop p k r n w₀ j₀ w j = (j ≤ n) × (w ≡ painted w₀ (remainder p w₀) j)
 
 abbrev μ-loop : tie.MeasureT-loop
-μ-loop p k reciprocal n w₀ j₀ w j = n - j
+μ-loop p k r n w₀ j₀ w j = n - j
 
 loop-holds : tie.Need-loop-holds Inv-loop μ-loop
 loop-holds c = (search needs, search painted-none)
@@ -23,7 +23,7 @@ element-copy-out-remainder : tie.Need-element-copy-out-remainder Inv-loop μ-loo
 element-copy-out-remainder c = search needs
 
 remainder-requires : tie.Need-remainder-requires Inv-loop μ-loop
-remainder-requires c κs = (search needs, search needs, search needs, search needs, search reduce-asks)
+remainder-requires c κs = (search needs, search reduce-asks)
 
 mul-w : tie.Need-mul-w Inv-loop μ-loop
 mul-w c = search needs

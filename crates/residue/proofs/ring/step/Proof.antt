@@ -11,16 +11,10 @@ use Rattle.residue.proofs.ring.step.Statement.{statement}
 use Rattle.residue.proofs.ring.step.Tie as tie
 
 abbrev Inv-loop : tie.InvT-loop
-Inv-loop p n t u v i q w₀ c carry₀ j₀ w carry j = (j ≤ n) × (carry ≡ getD (0 ∷ w₀) j 0) × (w ≡ painted w₀ (term q c 0 t v w₀) j)
+Inv-loop p n t c v q w₀ carry₀ j₀ w carry j = (j ≤ n) × (carry ≡ getD (0 ∷ w₀) j 0) × (w ≡ painted w₀ (term q c 0 t v w₀) j)
 
 abbrev μ-loop : tie.MeasureT-loop
-μ-loop p n t u v i q w₀ c carry₀ j₀ w carry j = n - j
-
-mul-c : tie.Need-mul-c Inv-loop μ-loop
-mul-c c = search needs
-
-element-copy-out-c : tie.Need-element-copy-out-c Inv-loop μ-loop
-element-copy-out-c c = search needs
+μ-loop p n t c v q w₀ carry₀ j₀ w carry j = n - j
 
 loop-holds : tie.Need-loop-holds Inv-loop μ-loop
 loop-holds c = (search needs, refl, search painted-none)
@@ -50,7 +44,7 @@ element-copy-out-times-2 : tie.Need-element-copy-out-times-2 Inv-loop μ-loop
 element-copy-out-times-2 c = search needs
 
 times-requires-2 : tie.Need-times-requires-2 Inv-loop μ-loop
-times-requires-2 c κs = (search word-short, search word-short)
+times-requires-2 c κs = (search needs, search word-short)
 
 add-w-2 : tie.Need-add-w-2 Inv-loop μ-loop
 add-w-2 c = search entry-fits
@@ -79,8 +73,6 @@ step-spec =
     (tie.spec
     Inv-loop
     μ-loop
-    mul-c
-    element-copy-out-c
     loop-holds
     mul-x
     element-copy-out-x

@@ -1,18 +1,18 @@
 -- `convert_group` meets its contract: one reduction for each word of the image.
 use borrow.Author.Needs.{needs}
 use Rattle.quotient.proofs.Padded.{holds-is}
-use Rattle.session.proofs.Converting.{group-short, combination-holds, store-holds, group-done}
+use Rattle.session.proofs.Converting.{group-short, product-holds, store-holds, group-done}
 use Rattle.session.proofs.convert.convert_group.Statement.{statement}
 use Rattle.session.proofs.convert.convert_group.Tie as tie
 
 load-requires : tie.Need-load-requires
 load-requires c κs = search group-short
 
-combine-requires : tie.Need-combine-requires
-combine-requires c κs = (search needs, (search needs, search holds-is))
+apply-requires : tie.Need-apply-requires
+apply-requires c κs = (search needs, (search needs, search holds-is))
 
 store-requires : tie.Need-store-requires
-store-requires c κs = (search needs, search (store-holds, combination-holds, holds-is))
+store-requires c κs = (search needs, search (store-holds, product-holds, holds-is))
 
 same-length : tie.Need-same-length
 same-length c = search needs
@@ -22,4 +22,4 @@ returns c = search group-done
 
 pub convert-group-spec : {M : Type 1} → statement M
 convert-group-spec =
-    tie.close (tie.spec load-requires combine-requires store-requires same-length returns)
+    tie.close (tie.spec load-requires apply-requires store-requires same-length returns)

@@ -1,18 +1,18 @@
--- `leading` scans the words from the first on.
+-- `first_non_zero` scans the words from the first on.
 use borrow.Author.Needs.{needs}
 use Prim.Native.Nat.{_-_}
-use Rattle.finder.proofs.VectorScan.{Leading, leading-start, leading-turn, leading-found, leading-none}
-use Rattle.finder.proofs.vector.leading.Statement.{statement}
-use Rattle.finder.proofs.vector.leading.Tie as tie
+use Rattle.finder.proofs.VectorScan.{ZerosBefore, firstNonZero-start, firstNonZero-turn, firstNonZero-found, firstNonZero-none}
+use Rattle.finder.proofs.vector.first_non_zero.Statement.{statement}
+use Rattle.finder.proofs.vector.first_non_zero.Tie as tie
 
 abbrev Inv-loop : tie.InvT-loop
-Inv-loop p n u i₀ i = Leading n u i
+Inv-loop p n u i₀ i = ZerosBefore n u i
 
 abbrev μ-loop : tie.MeasureT-loop
 μ-loop p n u i₀ i = n - i
 
 loop-holds : tie.Need-loop-holds Inv-loop μ-loop
-loop-holds c = search leading-start
+loop-holds c = search firstNonZero-start
 
 mul-if1 : tie.Need-mul-if1 Inv-loop μ-loop
 mul-if1 c = search needs
@@ -27,7 +27,7 @@ element-copy-out-result : tie.Need-element-copy-out-result Inv-loop μ-loop
 element-copy-out-result c = search needs
 
 returns : tie.Need-returns Inv-loop μ-loop
-returns c = search leading-found
+returns c = search firstNonZero-found
 
 add-i : tie.Need-add-i Inv-loop μ-loop
 add-i c = search needs
@@ -36,13 +36,13 @@ loop-less : tie.Need-loop-less Inv-loop μ-loop
 loop-less c = search needs
 
 loop-again : tie.Need-loop-again Inv-loop μ-loop
-loop-again c = search leading-turn
+loop-again c = search firstNonZero-turn
 
 returns-2 : tie.Need-returns-2 Inv-loop μ-loop
-returns-2 c = search leading-none
+returns-2 c = search firstNonZero-none
 
-pub leading-spec : {M : Type 1} → statement M
-leading-spec =
+pub first-non-zero-spec : {M : Type 1} → statement M
+first-non-zero-spec =
     tie.close
     (tie.spec
     Inv-loop

@@ -1,14 +1,15 @@
--- `combine` meets its contract. Before turn i the first i words of the combination are written.
+-- `apply` meets its contract. Before turn i the first i words of the product are written.
 use borrow.Author.Needs.{needs}
 use mathlib.Core.Path.{_≡_}
 use Prim.Native.Nat.{_-_, _≤_}
+use lib.ListN.{take}
 use Rattle.quotient.proofs.Painted.{painted, painted-none}
-use Rattle.residue.proofs.Rows.{combinationWord, combine-turn, combine-done}
-use Rattle.residue.proofs.table.combine.Statement.{statement}
-use Rattle.residue.proofs.table.combine.Tie as tie
+use Rattle.residue.proofs.MatrixLoops.{productWord, apply-turn, apply-done}
+use Rattle.residue.proofs.matrix.apply.Statement.{statement}
+use Rattle.residue.proofs.matrix.apply.Tie as tie
 
 abbrev Inv-loop : tie.InvT-loop
-Inv-loop p n m u w₀ i₀ w i = (i ≤ n) × (w ≡ painted w₀ (combinationWord p n m u) i)
+Inv-loop p n m u w₀ i₀ w i = (i ≤ n) × (w ≡ painted w₀ (productWord p m (take n u)) i)
 
 abbrev μ-loop : tie.MeasureT-loop
 μ-loop p n m u w₀ i₀ w i = n - i
@@ -32,13 +33,13 @@ loop-less : tie.Need-loop-less Inv-loop μ-loop
 loop-less c = search needs
 
 loop-again : tie.Need-loop-again Inv-loop μ-loop
-loop-again c = (search needs, search combine-turn)
+loop-again c = (search needs, search apply-turn)
 
 returns : tie.Need-returns Inv-loop μ-loop
-returns c = search combine-done
+returns c = search apply-done
 
-pub combine-spec : {M : Type 1} → statement M
-combine-spec =
+pub apply-spec : {M : Type 1} → statement M
+apply-spec =
     tie.close
     (tie.spec
     Inv-loop

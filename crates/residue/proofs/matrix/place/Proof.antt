@@ -1,20 +1,19 @@
--- `place` meets its contract. Before turn i the first i words of the row are in their places.
+-- `place` meets its contract. Before turn i the first i words are in their places.
 use borrow.Author.Needs.{needs}
-use mathlib.Core.Path.{_≡_}
-use Prim.Native.Nat.{_-_, _*_, _≤_}
-use lib.Seq.{paste, paste-zero}
-use Rattle.residue.proofs.Rows.{place-turn, place-done}
-use Rattle.residue.proofs.table.place.Statement.{statement}
-use Rattle.residue.proofs.table.place.Tie as tie
+use Prim.Native.Nat.{_-_, _≤_}
+use Rattle.residue.specs.Matrix.{Placed}
+use Rattle.residue.proofs.MatrixLoops.{place-starts, place-turn, place-done}
+use Rattle.residue.proofs.matrix.place.Statement.{statement}
+use Rattle.residue.proofs.matrix.place.Tie as tie
 
 abbrev Inv-loop : tie.InvT-loop
-Inv-loop n j row m₀ i₀ m i = (i ≤ n) × (m ≡ paste m₀ (16 * j) row i)
+Inv-loop n j u m₀ i₀ m i = (i ≤ n) × Placed i j u m₀ m
 
 abbrev μ-loop : tie.MeasureT-loop
-μ-loop n j row m₀ i₀ m i = n - i
+μ-loop n j u m₀ i₀ m i = n - i
 
 loop-holds : tie.Need-loop-holds Inv-loop μ-loop
-loop-holds c = (search needs, search paste-zero)
+loop-holds c = (search needs, search place-starts)
 
 mul-m : tie.Need-mul-m Inv-loop μ-loop
 mul-m c = search needs

@@ -1,21 +1,20 @@
--- `row` meets its contract. Before turn i the first i words of the row are copied.
+-- `column` meets its contract. Before turn i the first i words of the column are copied.
 use borrow.Author.Needs.{needs}
-use mathlib.Core.Path.{_≡_, refl}
-use Prim.Native.Nat.{_-_, _*_, _≤_}
-use lib.ListN.{drop}
-use lib.Seq.{paste}
-use Rattle.residue.proofs.Rows.{row-turn, row-done}
-use Rattle.residue.proofs.table.row.Statement.{statement}
-use Rattle.residue.proofs.table.row.Tie as tie
+use mathlib.Core.Path.{_≡_}
+use Prim.Native.Nat.{_-_, _≤_}
+use Rattle.quotient.proofs.Painted.{painted, painted-none}
+use Rattle.residue.proofs.MatrixLoops.{columnWord, column-turn, column-done}
+use Rattle.residue.proofs.matrix.column.Statement.{statement}
+use Rattle.residue.proofs.matrix.column.Tie as tie
 
 abbrev Inv-loop : tie.InvT-loop
-Inv-loop n m j w₀ i₀ w i = (i ≤ n) × (w ≡ paste w₀ 0 (drop (16 * j) m) i)
+Inv-loop n m j w₀ i₀ w i = (i ≤ n) × (w ≡ painted w₀ (columnWord m j) i)
 
 abbrev μ-loop : tie.MeasureT-loop
 μ-loop n m j w₀ i₀ w i = n - i
 
 loop-holds : tie.Need-loop-holds Inv-loop μ-loop
-loop-holds c = (search needs, refl)
+loop-holds c = (search needs, search painted-none)
 
 mul-w : tie.Need-mul-w Inv-loop μ-loop
 mul-w c = search needs
@@ -42,13 +41,13 @@ loop-less : tie.Need-loop-less Inv-loop μ-loop
 loop-less c = search needs
 
 loop-again : tie.Need-loop-again Inv-loop μ-loop
-loop-again c = (search needs, search row-turn)
+loop-again c = (search needs, search column-turn)
 
 returns : tie.Need-returns Inv-loop μ-loop
-returns c = search row-done
+returns c = search column-done
 
-pub row-spec : {M : Type 1} → statement M
-row-spec =
+pub column-spec : {M : Type 1} → statement M
+column-spec =
     tie.close
     (tie.spec
     Inv-loop

@@ -1,0 +1,17 @@
+-- `multiply` meets its contract.
+use borrow.Author.Needs.{needs}
+use Rattle.residue.proofs.Product.{reduce-given, reduced-is}
+use Rattle.residue.proofs.ring.multiply.Statement.{statement}
+use Rattle.residue.proofs.ring.multiply.Tie as tie
+
+accumulate-requires : tie.Need-accumulate-requires
+accumulate-requires c κs = search needs
+
+reduce-requires : tie.Need-reduce-requires
+reduce-requires c κs = (search needs, search reduce-given)
+
+returns : tie.Need-returns
+returns c = search reduced-is
+
+pub multiply-spec : {M : Type 1} → statement M
+multiply-spec = tie.close (tie.spec accumulate-requires reduce-requires returns)
