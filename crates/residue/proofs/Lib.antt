@@ -5,7 +5,7 @@ pub mod Reduce
 pub mod Product
 pub mod Substitute
 pub mod Power
-pub mod TimesX
+pub mod PowerOfX
 pub mod Copy
 pub mod MatrixLoops
 pub mod Powers

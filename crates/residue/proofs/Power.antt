@@ -74,12 +74,12 @@ module _ {p n : ℕ} {t : List ℕ} (big : 2 ≤ p) (wt : Words p n t) {u : List
       ∙ ap (λ a. a .0) (RingLaws.power-add (residueRing big wt) (u, wu) j k)
       ∙ ap₂ (product p t) (sym (power-is big wt (u, wu) j)) (sym (power-is big wt (u, wu) k))
 
-  power-even : (k : ℕ) → k % 2 ≡ 0 → product p t (power p t u (k / 2)) (power p t u (k / 2)) ≡ power p t u k
+  pub power-even : (k : ℕ) → k % 2 ≡ 0 → product p t (power p t u (k / 2)) (power p t u (k / 2)) ≡ power p t u k
   power-even k e =
       let f : k / 2 + k / 2 ≡ k = omega arith in
       sym (power-sum (k / 2) (k / 2)) ∙ ap (power p t u) f
 
-  power-odd : (k : ℕ) → (k % 2 ≡ 0 → ⊥) → product p t u (product p t (power p t u (k / 2)) (power p t u (k / 2))) ≡ power p t u k
+  pub power-odd : (k : ℕ) → (k % 2 ≡ 0 → ⊥) → product p t u (product p t (power p t u (k / 2)) (power p t u (k / 2))) ≡ power p t u k
   unfolding power
   power-odd k e =
       let f : suc (k / 2 + k / 2) ≡ k = omega arith in

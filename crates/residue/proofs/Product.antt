@@ -9,7 +9,7 @@ use Rattle.algebra.specs.Lists.{All}
 use Rattle.quotient.specs.Residue.{sum, scale, constant, timesX, product}
 use Rattle.quotient.proofs.Words.{words-length, constant-zero}
 use Rattle.quotient.specs.Array.{padded, Holds}
-use Rattle.residue.specs.Delayed.{reduced, Delayed}
+use Rattle.residue.specs.Delayed.{reduced, Delayed, Stepped}
 use Rattle.quotient.proofs.Padded.{array-fits, padded-zeros, take-zeros, holds-word}
 use Rattle.residue.proofs.Horner.{product-at}
 use Rattle.residue.proofs.Step.{delayed-word}
@@ -48,17 +48,15 @@ next-word p n i u h l y = holds-word y (i - 1) (omega arith)
 
 pub product-turn : (p n i : ℕ) (t u v w w′ : List ℕ) → 0 < i → i ≤ n → n ≤ 16 → Holds p n u
     → Delayed p n (n - i) (product p (take n t) (drop i (take n u)) (take n v)) w
-    → ((k : ℕ) → (a : List ℕ) → Delayed p n k a w → Delayed p n (k + 1) (sum p (scale p (getD u (i - 1) 0) (take n v)) (timesX p (take n t) a)) w′)
+    → Stepped p n (take n t) (getD u (i - 1) 0) (take n v) w w′
     → Delayed p n (n - (i - 1)) (product p (take n t) (drop (i - 1) (take n u)) (take n v)) w′
 product-turn p n i t u v w w′ pos l b y d step =
-    let f : i - 1 + 1 ≡ i = omega arith in
+    let rest : ℕ → List ℕ = λ j. product p (take n t) (drop j (take n u)) (take n v) in
+    let next : ℕ → List ℕ = λ j. sum p (scale p (getD u (i - 1) 0) (take n v)) (timesX p (take n t) (rest j)) in
+    let f : i ≡ i - 1 + 1 = omega arith in
     let g : n - i + 1 ≡ n - (i - 1) = omega arith in
-    let e : sum p (scale p (getD u (i - 1) 0) (take n v)) (timesX p (take n t) (product p (take n t) (drop i (take n u)) (take n v)))
-    ≡ product p (take n t) (drop (i - 1) (take n u)) (take n v)
-    = ap (λ j. sum p (scale p (getD u (i - 1) 0) (take n v)) (timesX p (take n t) (product p (take n t) (drop j (take n u)) (take n v)))) (sym f)
-    ∙ sym (product-at p n (i - 1) (take n t) u (take n v) (omega arith) (array-fits n u b (y .zeros))) in
-    subst (λ s. Delayed p n (n - (i - 1)) s w′) e (subst (λ j. Delayed p n j (sum p (scale p (getD u (i - 1) 0) (take n v)) (timesX p (take n t) (product p (take n t) (drop i (take n u)) (take n v)))) w′) g
-    (step (n - i) (product p (take n t) (drop i (take n u)) (take n v)) d))
+    let e : next i ≡ rest (i - 1) = ap next f ∙ sym (product-at p n (i - 1) (take n t) u (take n v) (omega arith) (array-fits n u b (y .zeros))) in
+    subst (λ j. Delayed p n j (rest (i - 1)) w′) g (subst (λ s. Delayed p n (n - i + 1) s w′) e (step .next (n - i) (rest i) d))
 
 pub product-done : (p n i : ℕ) (t u v w : List ℕ) → i ≤ 0 → Delayed p n (n - i) (product p t (drop i u) v) w → Delayed p n n (product p t u v) w
 product-done p n i t u v w h d =
@@ -68,17 +66,21 @@ product-done p n i t u v w h d =
 
 -- what the next step and the reductions may assume of the words
 
-delayed-more : {p n j k : ℕ} {s w : List ℕ} → j ≤ k → Delayed p n j s w → Delayed p n k (reduced p (take n w)) w
-delayed-more {p} {n} {j} {k} {s} {w} l d = record { words = refl; small = all-weaker j k (take n w) l (d .small); zeros = d .zeros }
+pub delayed-more : {p n j k : ℕ} {s w : List ℕ} → j ≤ k → Delayed p n j s w → Delayed p n k s w
+delayed-more {p} {n} {j} {k} {s} {w} l d = record { words = d .words; small = all-weaker j k (take n w) l (d .small); zeros = d .zeros }
 
-pub step-given : (p n i : ℕ) (s w : List ℕ) → Delayed p n (n - i) s w → n ≤ 16 → Delayed p n 16 (reduced p (take n w)) w
-step-given p n i s w d h = delayed-more (omega arith) d
+pub delayed-same : {p n k : ℕ} {s w : List ℕ} → Delayed p n k s w → Delayed p n k (reduced p (take n w)) w
+delayed-same d = record { words = refl; small = d .small; zeros = d .zeros }
 
-pub top-small : (p n i : ℕ) (s w : List ℕ) → Delayed p n (n - i) s w → 1 ≤ n → n ≤ 16 → getD w (n - 1) 0 ≤ 2 ^ 47
-top-small p n i s w d l h = omega (arith, delayed-word d h (n - 1) (omega arith))
+module _ (p n k : ℕ) (s w : List ℕ) (d : Delayed p n k s w) where
+  pub top-small : k ≤ 16 → 1 ≤ n → n ≤ 16 → getD w (n - 1) 0 ≤ 2 ^ 47
+  top-small h l m = omega (arith, delayed-word d m (n - 1) (omega arith), Nat.mul-le-mul-right (2 ^ 42) h)
 
-pub reduce-given : (p n : ℕ) (s w : List ℕ) → Delayed p n n s w → n ≤ 16 → Delayed p n 17 (reduced p (take n w)) w
-reduce-given p n s w d h = delayed-more (omega arith) d
+  pub step-given : k ≤ 16 → Delayed p n 16 (reduced p (take n w)) w
+  step-given h = delayed-same (delayed-more h d)
 
-pub reduced-is : (p n k : ℕ) (s w w′ : List ℕ) → Delayed p n k s w → w′ ≡ padded (reduced p (take n w)) → w′ ≡ padded s
-reduced-is p n k s w w′ d e = e ∙ ap padded (d .words)
+  pub reduce-given : k ≤ 16 → Delayed p n 17 (reduced p (take n w)) w
+  reduce-given h = delayed-same (delayed-more (omega arith) d)
+
+  pub reduced-is : (w′ : List ℕ) → w′ ≡ padded (reduced p (take n w)) → w′ ≡ padded s
+  reduced-is w′ e = e ∙ ap padded (d .words)

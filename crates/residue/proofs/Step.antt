@@ -13,7 +13,7 @@ use mir.Val.{Fits}
 use Rattle.algebra.specs.Lists.{All}
 use Rattle.quotient.specs.Residue.{sum, scale, timesX}
 use Rattle.quotient.specs.Array.{padded, Holds}
-use Rattle.residue.specs.Delayed.{reduced, Delayed}
+use Rattle.residue.specs.Delayed.{reduced, Delayed, Stepped}
 use Rattle.quotient.proofs.Painted.{painted, table, table-length, painted-next, painted-above}
 use Rattle.quotient.proofs.Padded.{array-fits, painted-array, take-padded, holds-word}
 use Rattle.residue.proofs.Horner.{term, step-mod}
@@ -76,18 +76,20 @@ carry-turn f j w w′ e = rw (add-one j, e) (painted-above w f j j (omega arith)
 -- the loop's end
 pub step-done : (p n j q c : ℕ) (t v w w′ : List ℕ) → 2 ≤ p → p ≤ 2 ^ 20 → 1 ≤ n → n ≤ 16 → c < p → Holds p n t → Holds p n v
     → q ≤ 3 * 2 ^ 20 → (q + getD w (n - 1) 0) % p ≡ 0 → j ≤ n → n ≤ j → w′ ≡ painted w (term q c 0 t v w) j
-    → (k : ℕ) → (a : List ℕ) → Delayed p n k a w → Delayed p n (k + 1) (sum p (scale p c (take n v)) (timesX p (take n t) a)) w′
-step-done p n j q c t v w w′ big f pos g h x z b o l l′ e k a d =
-    let entry : ℕ → ℕ = term q c 0 t v w in
-    let same : j ≡ n = omega arith in
-    let whole : w′ ≡ padded (table entry n) = e ∙ ap (painted w entry) same ∙ painted-array n entry w g (d .zeros) in
-    let front : take n w′ ≡ table entry n = ap (take n) whole ∙ take-padded n (table entry n) (table-length entry n) in
-    record {
-      words =
-          ap (reduced p) front
-          ∙ step-mod p q c n t v w (omega arith) pos (array-fits n t g (x .zeros)) (array-fits n v g (z .zeros)) (array-fits n w g (d .zeros)) o
-          ∙ ap (λ s. sum p (scale p c (take n v)) (timesX p (take n t) s)) (d .words);
-      small = subst (All (λ a. a ≤ (k + 1) * 2 ^ 42)) (sym front)
-          (all-table (λ a. a ≤ (k + 1) * 2 ^ 42) entry n (λ i m. unfold term in entry-small p n i q c t v f g b x z h m d));
-      zeros = whole ∙ ap padded (sym front);
-    }
+    → Stepped p n (take n t) c (take n v) w w′
+step-done p n j q c t v w w′ big f pos g h x z b o l l′ e = record {
+  next = λ k s d.
+      let entry : ℕ → ℕ = term q c 0 t v w in
+      let same : j ≡ n = omega arith in
+      let whole : w′ ≡ padded (table entry n) = e ∙ ap (painted w entry) same ∙ painted-array n entry w g (d .zeros) in
+      let front : take n w′ ≡ table entry n = ap (take n) whole ∙ take-padded n (table entry n) (table-length entry n) in
+      record {
+        words =
+            ap (reduced p) front
+            ∙ step-mod p q c n t v w (omega arith) pos (array-fits n t g (x .zeros)) (array-fits n v g (z .zeros)) (array-fits n w g (d .zeros)) o
+            ∙ ap (λ s. sum p (scale p c (take n v)) (timesX p (take n t) s)) (d .words);
+        small = subst (All (λ a. a ≤ (k + 1) * 2 ^ 42)) (sym front)
+            (all-table (λ a. a ≤ (k + 1) * 2 ^ 42) entry n (λ i m. unfold term in entry-small p n i q c t v f g b x z h m d));
+        zeros = whole ∙ ap padded (sym front);
+      };
+}

@@ -2,11 +2,13 @@
 --   Modulus p k r        2 ≤ p ≤ 2^20, p·k is the largest multiple of p up to 2^20, and r its reciprocal, by which words are reduced
 --   reduced p u          each word of u modulo p
 --   Delayed p n k s xs   the array xs holds n words that are s modulo p, each at most k·2^42, and zeros after them
+--   Stepped p n t c v xs ys   the array ys holds X·xs + c·v modulo T, and the bound on its words has grown by 2^42
 use mathlib.Core.Path.{_≡_}
 use mathlib.Core.List.{List, [], _∷_}
-use Prim.Native.Nat.{ℕ, _*_, _/_, _%_, _^_, _≤_}
+use Prim.Native.Nat.{ℕ, _+_, _*_, _/_, _%_, _^_, _≤_}
 use lib.ListN.{take}
 use Rattle.algebra.specs.Lists.{All}
+use Rattle.quotient.specs.Residue.{sum, scale, timesX}
 use Rattle.quotient.specs.Array.{padded}
 
 pub record Modulus (p k r : ℕ) : Type 0 where
@@ -23,3 +25,6 @@ pub record Delayed (p n k : ℕ) (s xs : List ℕ) : Type 0 where
   pub words : reduced p (take n xs) ≡ s
   pub small : All (λ a. a ≤ k * 2 ^ 42) (take n xs)
   pub zeros : xs ≡ padded (take n xs)
+
+pub record Stepped (p n : ℕ) (t : List ℕ) (c : ℕ) (v xs ys : List ℕ) : Type 0 where
+  pub next : (k : ℕ) (s : List ℕ) → Delayed p n k s xs → Delayed p n (k + 1) (sum p (scale p c v) (timesX p t s)) ys

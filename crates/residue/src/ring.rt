@@ -6,12 +6,11 @@ use crate::delayed::reciprocal;
 use crate::delayed::remainder;
 use crate::delayed::times;
 ghost use mathlib.Core.Path.{_≡_};
-ghost use mathlib.Core.List.{List};
-ghost use Prim.Native.Nat.{ℕ, _+_, _-_, _*_, _/_, _%_, _^_, _≤_, _<_};
+ghost use Prim.Native.Nat.{_+_, _-_, _*_, _/_, _%_, _^_, _≤_, _<_};
 ghost use lib.ListN.{getD, take, replicate};
-ghost use Rattle.quotient.specs.Residue.{sum, scale, constant, timesX, product as productOf, power as powerOf, residueOfX, substitute as substituteOf};
+ghost use Rattle.quotient.specs.Residue.{constant, product as productOf, power as powerOf, residueOfX, substitute as substituteOf};
 ghost use Rattle.quotient.specs.Array.{padded, Holds};
-ghost use Rattle.residue.specs.Delayed.{Modulus, reduced, Delayed};
+ghost use Rattle.residue.specs.Delayed.{Modulus, reduced, Delayed, Stepped};
 
 // One step of Horner's rule: w becomes X·w + c·v. Its top word goes out as q·t, where q is the opposite of the top word modulo p; no other
 // word is reduced.
@@ -20,7 +19,7 @@ fn step(p: u64, n: usize, t: &[u64; 16], c: u64, v: &[u64; 16], q: u64, w: &mut 
     requires { ⌜ Holds p n (now t) × Holds p n (now v) ⌝ }
     requires { ⌜ (q ≤ 3 * 2 ^ 20) × ((q + getD (now w) (n - 1) 0) % p ≡ 0) ⌝ }
     requires { ⌜ Delayed p n 16 (reduced p (take n (now w))) (now w) ⌝ }
-    ensures { λ _. ⌜ ((k : ℕ) (a : List ℕ) → Delayed p n k a (now (w .entry)) → Delayed p n (k + 1) (sum p (scale p c (take n (now (v .entry)))) (timesX p (take n (now (t .entry))) a)) (now (w .exit))) ⌝ }
+    ensures { λ _. ⌜ Stepped p n (take n (now (t .entry))) c (take n (now (v .entry))) (now (w .entry)) (now (w .exit)) ⌝ }
 {
     let mut carry = 0;
     let mut j = 0;
@@ -165,40 +164,45 @@ pub fn power(p: u64, n: usize, t: &[u64; 16], u: &[u64; 16], e: u64) -> [u64; 16
     power_by_halving(p, k, r, n, t, u, e)
 }
 
-// X·u modulo T: the words of u one place higher, and the opposite of the top word times t.
-fn times_x(p: u64, n: usize, t: &[u64; 16], u: &[u64; 16]) -> [u64; 16]
-    requires { ⌜ (2 ≤ p) × (p ≤ 2 ^ 20) × (1 ≤ n) × (n ≤ 16) ⌝ }
-    requires { ⌜ Holds p n (now t) × Holds p n (now u) ⌝ }
-    ensures { λ r. ⌜ r ≡ padded (timesX p (take n (now (t .entry))) (take n (now (u .entry)))) ⌝ }
+// X^e modulo T into w, which is 0, from X^(e / 2): its square, and X times that where e is odd. The words of w are not reduced.
+fn raise(
+    p: u64,
+    k: u64,
+    r: u64,
+    n: usize,
+    t: &[u64; 16],
+    half: &[u64; 16],
+    e: u64,
+    w: &mut [u64; 16],
+)
+    requires { ⌜ Modulus p k r × (1 ≤ n) × (n ≤ 16) ⌝ }
+    requires { ⌜ Holds p n (now t) × (now half ≡ padded (powerOf p (take n (now t)) (residueOfX p (take n (now t))) (e / 2))) ⌝ }
+    requires { ⌜ now w ≡ replicate 16 0 ⌝ }
+    ensures { λ _. ⌜ Delayed p n 17 (powerOf p (take n (now (t .entry))) (residueOfX p (take n (now (t .entry)))) e) (now (w .exit)) ⌝ }
 {
-    let q = p - u[n - 1];
-    let mut w = [0; 16];
-    let mut carry = 0;
-    let mut j = 0;
-    while j < n {
-        w[j] = (carry + times(q, t[j])) % p;
-        carry = u[j];
-        j += 1;
+    accumulate(p, k, r, n, t, half, half, w);
+    if e % 2 == 0 {
+        return;
     }
-    w
+    let q = opposite(p, k, r, w[n - 1]);
+    step(p, n, t, 0, half, q, w);
 }
 
-// X^k modulo T, from the power to half the exponent; an odd exponent takes one more multiplication by X.
-fn monomial(p: u64, n: usize, t: &[u64; 16], k: u64) -> [u64; 16]
-    requires { ⌜ (2 ≤ p) × (p ≤ 2 ^ 20) × (1 ≤ n) × (n ≤ 16) ⌝ }
+// X^e modulo T into w, which is 0. An exponent below n needs no product.
+fn monomial(p: u64, k: u64, r: u64, n: usize, t: &[u64; 16], e: u64, w: &mut [u64; 16])
+    requires { ⌜ Modulus p k r × (1 ≤ n) × (n ≤ 16) ⌝ }
     requires { ⌜ Holds p n (now t) ⌝ }
-    ensures { λ r. ⌜ r ≡ padded (powerOf p (take n (now (t .entry))) (residueOfX p (take n (now (t .entry)))) k) ⌝ }
+    requires { ⌜ now w ≡ replicate 16 0 ⌝ }
+    ensures { λ _. ⌜ now (w .exit) ≡ padded (powerOf p (take n (now (t .entry))) (residueOfX p (take n (now (t .entry)))) e) ⌝ }
 {
-    if k == 0 {
-        return one(n);
+    if e < n as u64 {
+        w[e as usize] = 1;
+        return;
     }
-    let half = monomial(p, n, t, k / 2);
-    let square = product(p, n, t, &half, &half);
-    if k % 2 == 0 {
-        square
-    } else {
-        times_x(p, n, t, &square)
-    }
+    let mut half = [0; 16];
+    monomial(p, k, r, n, t, e / 2, &mut half);
+    raise(p, k, r, n, t, &half, e, w);
+    reduce(p, k, r, n, w);
 }
 
 // X^p modulo T.
@@ -207,7 +211,11 @@ pub fn power_of_x(p: u64, n: usize, t: &[u64; 16]) -> [u64; 16]
     requires { ⌜ Holds p n (now t) ⌝ }
     ensures { λ r. ⌜ r ≡ padded (powerOf p (take n (now (t .entry))) (residueOfX p (take n (now (t .entry)))) p) ⌝ }
 {
-    monomial(p, n, t, p)
+    let k = multiplier(p);
+    let r = reciprocal(p, k);
+    let mut w = [0; 16];
+    monomial(p, k, r, n, t, p, &mut w);
+    w
 }
 
 // u(S) modulo T, by Horner's rule from the top word of u.

@@ -9,13 +9,13 @@ use Rattle.residue.proofs.ring.accumulate.Statement.{statement}
 use Rattle.residue.proofs.ring.accumulate.Tie as tie
 
 abbrev Inv-loop : tie.InvT-loop
-Inv-loop p k r n t u v w₀ i₀ w i = (i ≤ n) × Delayed p n (n - i) (product p (take n t) (drop i (take n u)) (take n v)) w
+Inv-loop p k r n t u v w₀ i₀ w i = (i ≤ n) × (n - i ≤ 16) × Delayed p n (n - i) (product p (take n t) (drop i (take n u)) (take n v)) w
 
 abbrev μ-loop : tie.MeasureT-loop
 μ-loop p k r n t u v w₀ i₀ w i = i
 
 loop-holds : tie.Need-loop-holds Inv-loop μ-loop
-loop-holds c = (search needs, search product-starts)
+loop-holds c = (search needs, search needs, search product-starts)
 
 sub-i : tie.Need-sub-i Inv-loop μ-loop
 sub-i c = search needs
@@ -45,7 +45,7 @@ loop-less : tie.Need-loop-less Inv-loop μ-loop
 loop-less c = search needs
 
 loop-again : tie.Need-loop-again Inv-loop μ-loop
-loop-again c = (search needs, search product-turn)
+loop-again c = (search needs, search needs, search product-turn)
 
 returns : tie.Need-returns Inv-loop μ-loop
 returns c = search product-done

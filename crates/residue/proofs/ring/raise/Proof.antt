@@ -1,0 +1,43 @@
+-- `raise` meets its contract.
+use borrow.Author.Needs.{needs}
+use Rattle.residue.proofs.PowerOfX.{half-holds, raise-even, raise-odd}
+use Rattle.residue.proofs.Product.{top-small, step-given}
+use Rattle.residue.proofs.ring.raise.Statement.{statement}
+use Rattle.residue.proofs.ring.raise.Tie as tie
+
+accumulate-requires : tie.Need-accumulate-requires
+accumulate-requires c κs = (search needs, ((search needs, search half-holds, search half-holds), search needs))
+
+returns : tie.Need-returns
+returns c = search raise-even
+
+sub-opposite : tie.Need-sub-opposite
+sub-opposite c = search needs
+
+mul-opposite : tie.Need-mul-opposite
+mul-opposite c = search needs
+
+element-copy-out-opposite : tie.Need-element-copy-out-opposite
+element-copy-out-opposite c = search needs
+
+opposite-requires : tie.Need-opposite-requires
+opposite-requires c κs = (search needs, search top-small)
+
+step-requires : tie.Need-step-requires
+step-requires c κs = (search needs, ((search needs, search half-holds), (search needs, search step-given)))
+
+returns-2 : tie.Need-returns-2
+returns-2 c = search raise-odd
+
+pub raise-spec : {M : Type 1} → statement M
+raise-spec =
+    tie.close
+    (tie.spec
+    accumulate-requires
+    returns
+    sub-opposite
+    mul-opposite
+    element-copy-out-opposite
+    opposite-requires
+    step-requires
+    returns-2)
