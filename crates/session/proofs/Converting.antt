@@ -15,10 +15,10 @@ use borrow.Rule.Slice.PartMut.{putMid, postOf, same-len-mid}
 use Rattle.algebra.specs.Lists.{range}
 use Rattle.quotient.specs.Residue.{Words, none, more, substitute}
 use Rattle.quotient.proofs.Words.{words-length, substitute-words}
-use Rattle.quotient.specs.Array.{padded, Holds, Square, rowProduct}
+use Rattle.quotient.specs.Array.{padded, Holds, rowProduct}
 use Rattle.residue.specs.Matrix.{Powers, matrixProduct}
 use Rattle.residue.proofs.Answers.{words-up}
-use Rattle.residue.proofs.PowerMatrix.{powers-square, product-substitutes}
+use Rattle.residue.proofs.PowerMatrix.{product-substitutes}
 use Rattle.quotient.proofs.Padded.{holds-is, front-is, take-padded}
 use Rattle.session.specs.Session.{converted, tableNumber}
 use Rattle.session.proofs.Groups.{take-words, drop-words}
@@ -89,9 +89,6 @@ module _ (p n : ℕ) (t s table out m : List ℕ) (i : ℕ) (g : Progress p n t 
 -- a turn
 module _ (p n : ℕ) (t s table out₀ out m : List ℕ) (i : ℕ) (size : (2 ≤ p) × (p ≤ 2 ^ 16) × (1 ≤ n) × (n ≤ 16)) (x : Holds p n t) (y : Holds p n s)
     (h : tableNumber p n table out₀ ≡ 0) (g : Progress p n t s table out m i) (l : i < length table) where
-  pub powers-are-square : Square p n m
-  powers-are-square = powers-square (size .0) (x .words) (y .words) (g .powers)
-
   group-words : Words p n (take n (drop i table))
   group-words = take-words (drop-words (table-given p n table out₀ h .words) i) n (omega (arith, group-ends p n t s table out m i g l))
 

@@ -2,7 +2,8 @@
 use borrow.Author.Needs.{needs}
 use Prim.Native.Nat.{_-_}
 use lib.ListN.{length}
-use Rattle.session.proofs.Converting.{Progress, starts, group-ends, output-ends, output-part, powers-are-square, part-words, turn, done, keeps-length}
+use Rattle.residue.proofs.PowerMatrix.{square-of-powers}
+use Rattle.session.proofs.Converting.{Progress, starts, group-ends, output-ends, output-part, part-words, turn, done, keeps-length}
 use Rattle.session.proofs.convert.convert.Statement.{statement}
 use Rattle.session.proofs.convert.convert.Tie as tie
 
@@ -46,7 +47,7 @@ part-convert-group-end-2 : tie.Need-part-convert-group-end-2 Inv-loop μ-loop
 part-convert-group-end-2 c = search (output-ends, needs)
 
 convert-group-requires : tie.Need-convert-group-requires Inv-loop μ-loop
-convert-group-requires c κs = ((search needs, search needs, search needs, search output-part), (search powers-are-square, search part-words))
+convert-group-requires c κs = ((search needs, search needs, search needs, search output-part), (search square-of-powers, search part-words))
 
 loop-less : tie.Need-loop-less Inv-loop μ-loop
 loop-less c = search needs
