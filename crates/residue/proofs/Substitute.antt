@@ -75,18 +75,18 @@ module _ (p n i : ℕ) (t s u w : List ℕ) (e : w ≡ padded (substitute p (tak
   pub substitute-holds : Holds p n w
   substitute-holds = holds-is e rest-words
 
-  module _ (r : List ℕ) (f : r ≡ padded (product p (take n t) (take n s) (take n w))) (h : 1 ≤ n) (l : 0 < i) (m : i ≤ n) where
+  module _ (r : List ℕ) (f : r ≡ padded (product p (take n t) (take n s) (take n w))) (l : 0 < i) (m : i ≤ n) where
     next-words : Words p n (product p (take n t) (take n s) (take n w))
     next-words = product-words big (x .words) (take n s) (substitute-holds .words)
 
     pub substitute-fits : p ≤ 2 ^ 20 → Fits w64 (getD r 0 0 + getD u (i - 1) 0)
-    substitute-fits b = omega (arith, holds-word (holds-is f next-words) 0 h, holds-word z (i - 1) (omega arith))
+    substitute-fits b = omega (arith, holds-word (holds-is f next-words) 0 (omega arith), holds-word z (i - 1) (omega arith))
 
     pub substitute-turn : set r 0 ((getD r 0 0 + getD u (i - 1) 0) % p) ≡ padded (substitute p (take n t) (take n s) (drop (i - 1) (take n u)))
     substitute-turn =
         let c : ℕ = getD u (i - 1) 0 in
         ap (λ l. set l 0 ((getD l 0 0 + c) % p)) f
-        ∙ constant-sum h next-words c
+        ∙ constant-sum (omega arith) next-words c
         ∙ ap padded
         (ap₂ (λ k l. sum p (constant k c) (product p (take n t) (take n s) l)) (sym (words-length (x .words))) (front-is e rest-words)
         ∙ sym (substitute-at p n i (take n t) (take n s) u l m (words-length (z .words))))

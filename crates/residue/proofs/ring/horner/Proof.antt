@@ -65,7 +65,7 @@ loop-again c =
     let turn = c .before .before .before in
     let loop = turn .before .loop in
     let given = turn .before .before .before .pre in
-    (search needs, substitute-turn _ _ _ _ _ _ _ (loop .inv .1) (given .0 .0 .big) (given .1 .0) (given .1 .1) (given .1 .2) _ (c .before .multiply .ensures) (given .0 .1) (turn .loop-test .taken) (loop .inv .0))
+    (search needs, substitute-turn _ _ _ _ _ _ _ (loop .inv .1) (given .0 .0 .big) (given .1 .0) (given .1 .1) (given .1 .2) _ (c .before .multiply .ensures) (turn .loop-test .taken) (loop .inv .0))
 
 returns : tie.Need-returns Inv-loop μ-loop
 returns c = search substitute-done
