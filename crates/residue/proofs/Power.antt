@@ -64,7 +64,7 @@ x-fits p n t b h x =
 
 -- the laws of exponents
 module _ {p n : ℕ} {t : List ℕ} (big : 2 ≤ p) (wt : Words p n t) {u : List ℕ} (wu : Words p n u) where
-  power-one : power p t u 1 ≡ u
+  pub power-one : power p t u 1 ≡ u
   power-one = power-is big wt (u, wu) 1 ∙ ap (λ a. a .0) (RingLaws.power-one (residueRing big wt) (u, wu))
 
   power-sum : (j k : ℕ) → power p t u (j + k) ≡ product p t (power p t u j) (power p t u k)
