@@ -17,13 +17,6 @@ module _ {A : Type 0} (F : Field A) where
   pub mul-left-cancel : (a b c : A) → (a ≡ 𝟎 → ⊥) → a ⊗ b ≡ a ⊗ c → b ≡ c
   mul-left-cancel a b c n e = sym (inverse-mul-cancel a b n) ∙ ap (λ t. F .inverse a ⊗ t) e ∙ inverse-mul-cancel a c n
 
-  pub mul-eq-zero : (a b : A) → a ⊗ b ≡ 𝟎 → (a ≡ 𝟎) ⊎ (b ≡ 𝟎)
-  mul-eq-zero a b e = by-first (F .discrete a 𝟎)
-    where
-      by-first : Dec (a ≡ 𝟎) → (a ≡ 𝟎) ⊎ (b ≡ 𝟎)
-      by-first (yes z) = inl z
-      by-first (no n) = inr (mul-left-cancel a b 𝟎 n (e ∙ sym (mul-zero R a)))
-
   pub mul-ne-zero : (a b : A) → (a ≡ 𝟎 → ⊥) → (b ≡ 𝟎 → ⊥) → a ⊗ b ≡ 𝟎 → ⊥
   mul-ne-zero a b n m e = m (mul-left-cancel a b 𝟎 n (e ∙ sym (mul-zero R a)))
 

@@ -2,11 +2,11 @@
 --   HasOrder R z n   z has order n
 use mathlib.Core.Path.{_≡_, sym, ap, _∙_, _≡⟨_⟩_, _∎}
 use Prim.Native.Nat.{ℕ, zero, suc, _+_, _*_, _/_, _%_, _≤_, _<_}
-use native.Mathlib.Nat.{mod-lt, div-add-mod', mul-comm as ℕ·mul-comm, le-dest, le-trans, le-of-lt}
-use native.Mathlib.Decide.{ℕ-discrete, decLe}
+use native.Mathlib.Nat.{div-add-mod', mul-comm as ℕ·mul-comm, le-dest, le-trans, le-of-lt}
+use native.Mathlib.Decide.{decLe}
 use native.Mathlib.Omega.{arith}
 use Rattle.algebra.specs.Ring.{CommutativeRing, power}
-use Rattle.algebra.proofs.RingLaws.{mul-assoc, mul-comm, one-mul, power-zero, power-add, power-mul, power-of-one}
+use Rattle.algebra.proofs.RingLaws.{mul-assoc, mul-comm, one-mul, power-add, power-mul, power-of-one}
 
 pub record HasOrder {A : Type 0} (R : CommutativeRing A) (z : A) (n : ℕ) : Type 0 where
   pub period : power R z n ≡ R .one
@@ -25,9 +25,6 @@ module _ {A : Type 0} (R : CommutativeRing A) (z : A) where
       ≡⟨ (simp (power-mul R, e, power-of-one R, one-mul R)) ⟩ power R z (j % n)
       ∎
 
-  pub one-of-multiple : (n : ℕ) → power R z n ≡ 𝟏 → (j : ℕ) → j % n ≡ 0 → power R z j ≡ 𝟏
-  one-of-multiple n e j h = power-mod n e j ∙ ap (power R z) h ∙ power-zero R z
-
   -- z^j·z^e = 1 and z^j = z^(j + d): multiply by z^e
   cancel-power : (j d e : ℕ) → power R z (j + e) ≡ 𝟏 → power R z j ≡ power R z (j + d) → power R z d ≡ 𝟏
   cancel-power j d e one same =
@@ -39,13 +36,6 @@ module _ {A : Type 0} (R : CommutativeRing A) (z : A) where
       ∎
 
   module _ (n : ℕ) (order : HasOrder R z n) where
-    pub multiple-of-one : 0 < n → (j : ℕ) → power R z j ≡ 𝟏 → j % n ≡ 0
-    multiple-of-one pos j e = by-rest (ℕ-discrete (j % n) 0)
-      where
-        by-rest : Dec (j % n ≡ 0) → j % n ≡ 0
-        by-rest (yes h) = h
-        by-rest (no h) = absurd (order .least (j % n) (omega arith) (mod-lt j pos) (sym (power-mod n (order .period) j) ∙ e))
-
     ordered-equal : (j k : ℕ) → j ≤ k → k < n → power R z j ≡ power R z k → j ≡ k
     ordered-equal j k le lt e = by-gap (le-dest le) (le-dest (le-trans le (le-of-lt lt)))
       where

@@ -43,9 +43,6 @@ module _ {A : Type 0} (R : CommutativeRing A) where
   pub add-left-cancel : (a b c : A) → a ⊕ b ≡ a ⊕ c → b ≡ c
   add-left-cancel a b c e = sym (neg-add-cancel-left a b) ∙ ap (λ s. ⊖ a ⊕ s) e ∙ neg-add-cancel-left a c
 
-  pub add-right-cancel : (a b c : A) → a ⊕ c ≡ b ⊕ c → a ≡ b
-  add-right-cancel a b c e = add-left-cancel c a b (add-comm c a ∙ e ∙ add-comm b c)
-
   -- The negative of a is the one b with a + b = 0.
   pub neg-unique : (a b : A) → a ⊕ b ≡ 𝟎 → b ≡ ⊖ a
   neg-unique a b e = add-left-cancel a b (⊖ a) (e ∙ sym (add-neg a))
@@ -62,9 +59,6 @@ module _ {A : Type 0} (R : CommutativeRing A) where
 
   pub eq-of-sub-zero : (a b : A) → a ⊕ ⊖ b ≡ 𝟎 → a ≡ b
   eq-of-sub-zero a b e = sym (neg-neg a) ∙ ap ⊖_ (sym (neg-unique a (⊖ b) e)) ∙ neg-neg b
-
-  pub sub-zero-of-eq : (a b : A) → a ≡ b → a ⊕ ⊖ b ≡ 𝟎
-  sub-zero-of-eq a b e = ap (λ s. s ⊕ ⊖ b) e ∙ add-neg b
 
   pub mul-assoc : (a b c : A) → a ⊗ b ⊗ c ≡ a ⊗ (b ⊗ c)
   mul-assoc = R .mul-assoc

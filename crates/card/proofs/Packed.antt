@@ -2,7 +2,7 @@
 -- bytes with the same bits are equal.
 --   Bytes ys   every element is below 256
 use mathlib.Core.Path.{_≡_, refl, sym, ap, ap₂, _∙_}
-use mathlib.Core.List.{List, [], _∷_, _++_, append-nil}
+use mathlib.Core.List.{List, [], _∷_, _++_}
 use Prim.Native.Nat.{ℕ, zero, suc, _+_, _-_, _*_, _/_, _≤_, _<_}
 use native.Mathlib.Nat.{mul-comm}
 use native.Mathlib.Omega.{arith}
@@ -100,10 +100,3 @@ packed-below bs b = bytes-below ((length bs + 7) / 8) bs b
 pub unpacked-packed : (bs : List ℕ) → Binary bs → unpacked (packed bs) ≡ bs ++ replicate (8 * ((length bs + 7) / 8) - length bs) 0
 unfolding packed
 unpacked-packed bs b = unpacked-bytes ((length bs + 7) / 8) bs b (omega arith)
-
--- whole bytes need no fill
-pub packed-unpacked : (ys : List ℕ) → Bytes ys → packed (unpacked ys) ≡ ys
-packed-unpacked ys b =
-    let full : 8 * ((length (unpacked ys) + 7) / 8) - length (unpacked ys) ≡ 0 = omega (arith, unpacked-length ys) in
-    unpacked-injective (packed (unpacked ys)) ys (packed-below (unpacked ys) (unpacked-binary ys)) b
-    (unpacked-packed (unpacked ys) (unpacked-binary ys) ∙ ap (λ k. unpacked ys ++ replicate k 0) full ∙ append-nil (unpacked ys))

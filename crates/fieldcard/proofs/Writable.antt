@@ -1,15 +1,14 @@
 -- No refusal of the writer applies to the words of a pair that is found: by demand 3 the checker accepts the pair, so all four lists have n words below p.
-use mathlib.Core.Path.{_≡_, refl, sym, ap, subst, subst₂}
-use mathlib.Core.List.{List, [], _∷_, _++_}
+use mathlib.Core.Path.{_≡_, refl, ap, subst₂}
+use mathlib.Core.List.{List, [], _∷_}
 use Prim.Native.Nat.{ℕ, _+_, _*_}
-use native.Mathlib.Nat as Nat
 use native.Mathlib.Omega.{arith}
 use lib.ListN.{replicate, length-replicate}
 use Rattle.modular.specs.Refusal.{written}
 use Rattle.quotient.specs.Residue.{Words}
 use Rattle.modular.proofs.Refusal.{given-prime, given-degree, sent-given, given-sent}
 use Rattle.quotient.proofs.Refusal.{given-words}
-use Rattle.quotient.proofs.Words.{words-length}
+use Rattle.quotient.proofs.Words.{words-length, append-words}
 use Rattle.card.specs.Card.{badKind, cardLength, writeNumber}
 use Rattle.card.proofs.Conditions.{length-good}
 use Rattle.card.proofs.Refusals.{write-accepts}
@@ -19,10 +18,6 @@ use Rattle.finder.specs.Finder.{findNumber, findS, findR, findOutputS, findOutp
 use Rattle.finder.proofs.FindAnswer.{models}
 use Rattle.finder.proofs.Theorem.{demand-3}
 use Rattle.fieldcard.specs.Parts.{pairWords, pairFault}
-
-words-append : {p n m : ℕ} {u v : List ℕ} → Words p n u → Words p m v → Words p (n + m) (u ++ v)
-words-append {p} {m = m} {v = v} Words.none w = subst (λ k. Words p k v) (sym (Nat.zero-add m)) w
-words-append {p} {m = m} {v = v} (Words.more {a = a} {n = n} {u = u} h t) w = subst (λ k. Words p k (a ∷ (u ++ v))) (sym (Nat.suc-add n m)) (Words.more h (words-append t w))
 
 module _ (p n : ℕ) (t1 t2 lentS lentR : List ℕ) (none : findNumber p n t1 t2 lentS lentR ≡ 0) where
   -- 1 to 4 do not apply
@@ -44,7 +39,7 @@ module _ (p n : ℕ) (t1 t2 : List ℕ) (none : pairFault p n t1 t2 ≡ 0) where
 
   four-lists : Words p (n + (n + (n + n))) (pairWords p n t1 t2)
   unfolding pairWords
-  four-lists = words-append (pair-given .models .modulus1) (words-append (pair-given .models .modulus2) (words-append (pair-given .words-s) (pair-given .words-r)))
+  four-lists = append-words (pair-given .models .modulus1) (append-words (pair-given .models .modulus2) (append-words (pair-given .words-s) (pair-given .words-r)))
 
   pub pair-writable : writeNumber p n 2 (pairWords p n t1 t2) (replicate (cardLength p n 2) 0) ≡ 0
   unfolding badKind

@@ -20,7 +20,7 @@ use Rattle.algebra.specs.Ring.{CommutativeRing, Field, numeral, power}
 use Rattle.algebra.proofs.Lists.{map-member, member-map, member-equal, distinct-map}
 use Rattle.algebra.proofs.Modulo.{mod-laws}
 use Rattle.algebra.proofs.Search.{range-bounds, range-member, range-distinct, range-length}
-use Rattle.algebra.proofs.Units.{Units, power-units}
+use Rattle.algebra.proofs.Units.{Units}
 use Rattle.modular.specs.Inverse.{inverse}
 use Rattle.modular.proofs.Inverse.{inverse-product, inverse-bound}
 
@@ -90,10 +90,6 @@ module _ (p : ℕ) (h : 2 ≤ p) where
   unfolding wordRing
   add-value a b = refl
 
-  pub neg-value : (a : Below p) → wordRing .neg a .0 ≡ (p - a .0) % p
-  unfolding wordRing
-  neg-value a = refl
-
   pub mul-value : (a b : Below p) → wordRing .mul a b .0 ≡ (a .0 * b .0) % p
   unfolding wordRing
   mul-value a b = refl
@@ -104,14 +100,6 @@ module _ (p : ℕ) (h : 2 ≤ p) where
   numeral-value (suc k) =
       let e : 1 + k ≡ suc k = omega arith in
       ap (λ x. (1 % p + x) % p) (numeral-value k) ∙ simp mod-laws (ap (λ x. x % p) e)
-
-  -- p·1 = 0
-  pub numeral-p : numeral wordRing p ≡ wordRing .zero
-  numeral-p = below-equal p _ _ (numeral-value p ∙ mod-self p ∙ sym zero-value)
-
-  -- every word is a numeral
-  pub numeral-word : (a : Below p) → numeral wordRing (a .0) ≡ a
-  numeral-word a = below-equal p _ _ (numeral-value (a .0) ∙ mod-eq-of-lt (a .1))
 
   pub power-value : (a : Below p) (k : ℕ) → power wordRing a k .0 ≡ (a .0 ^ k) % p
   unfolding wordRing power
@@ -150,14 +138,6 @@ module _ (p : ℕ) (prime : Prime p) where
   wordField =
       record { ring = primeRing; inverse = inverseWord; mul-inverse = mul-inverse-word; one-ne-zero = one-ne-zero; discrete = below-discrete p }
 
-  pub field-ring : wordField .ring ≡ primeRing
-  unfolding wordField
-  field-ring = refl
-
-  pub inverse-value : (a : Below p) → wordField .inverse a .0 ≡ inverse p (a .0)
-  unfolding wordField
-  inverse-value a = refl
-
   pub nonzero-words : Units wordField (nonzeroWords p (prime .0))
   unfolding nonzeroWords wordField
   nonzero-words =
@@ -180,15 +160,3 @@ module _ (p : ℕ) (prime : Prime p) where
       apart k m e =
           let z : k ≡ 0 = sym (mod-eq-of-lt (small k m)) ∙ ap (λ a. a .0) e ∙ zero-value p (prime .0) in
           omega (arith, range-bounds 1 (p - 1) k m)
-
-  pub power-nonzero : (u : Below p) → (u ≡ primeRing .zero → ⊥) → power primeRing u (p - 1) ≡ primeRing .one
-  unfolding wordField
-  power-nonzero u n =
-      ap (power primeRing u) (sym (nonzero-words-length p (prime .0))) ∙ power-units wordField (nonzeroWords p (prime .0)) nonzero-words u n
-
-  -- Fermat's theorem
-  pub fermat : (a : ℕ) → 0 < a → a < p → (a ^ (p - 1)) % p ≡ 1
-  fermat a pos l =
-      sym (power-value p (prime .0) (a, l) (p - 1))
-      ∙ ap (λ u. u .0) (power-nonzero (a, l) (λ e. let z : a ≡ 0 = ap (λ u. u .0) e ∙ zero-value p (prime .0) in omega arith))
-      ∙ one-value p (prime .0)

@@ -8,12 +8,11 @@ use native.Mathlib.Nat.{add-zero, mod-mod}
 use lib.ListN.{getD, replicate}
 use Rattle.algebra.specs.Ring.{CommutativeRing}
 use Rattle.algebra.proofs.RingLaws.{zero-mul}
-use Rattle.quotient.specs.Residue.{Words, Residue, sum, constant, residueOfX, substitute, modulusAt}
+use Rattle.quotient.specs.Residue.{Words, Residue, sum, constant, residueOfX, modulusAt}
 use Rattle.quotient.specs.Divisor.{Same, Divides, Remainder, polynomialProduct, monic}
-use Rattle.quotient.specs.Map.{Preserves}
-use Rattle.quotient.proofs.Words.{residue-path, constant-zero, residueOfX-words}
+use Rattle.quotient.proofs.Words.{residue-path, constant-zero}
 use Rattle.quotient.proofs.Ring.{residueRing, xResidue}
-use Rattle.quotient.proofs.Substitution.{Homomorphism, evaluate-x, evaluate-homomorphism, substitution-preserves}
+use Rattle.quotient.proofs.Substitution.{Homomorphism, evaluate-x, evaluate-homomorphism}
 use Rattle.quotient.proofs.Reduction.{zero-is, characteristic, reduce, reduce-product, reduce-same, reduce-monic, reduce-modulus}
 use Rattle.quotient.proofs.Remainder.{remainder-is}
 
@@ -68,6 +67,3 @@ module _ {p m : ℕ} {d : List ℕ} (big : 2 ≤ p) (wd : Words p (suc m) d) whe
     pub reduction-homomorphism : Homomorphism (residueRing big wt) K (λ u. reduce big wd (u .0))
     unfolding reduce
     reduction-homomorphism = evaluate-homomorphism big wt K (characteristic big wd) (xResidue big wd) (divides-zero t h)
-
-    pub reduction-preserves : Preserves p t d (substitute p d (residueOfX p d))
-    reduction-preserves = substitution-preserves big wt wd (residueOfX-words big wd) (divisor-root t h)

@@ -2,12 +2,12 @@
 use mathlib.Core.Path.{_≡_, refl, sym, ap, _∙_}
 use mathlib.Core.HLevel.{Σ-prop-path, Σ-prop-discrete}
 use mathlib.Core.List.{List, [], _∷_, _++_, List-discrete}
-use Prim.Native.Nat.{ℕ, zero, suc, _+_, _<_, _≤_}
+use Prim.Native.Nat.{ℕ, zero, suc, _+_, _-_, _<_, _≤_}
 use native.Mathlib.Nat as Nat
 use native.Mathlib.Bridge.{le-prop}
 use native.Mathlib.Decide.{ℕ-discrete}
 use native.Mathlib.Omega.{arith}
-use lib.ListN.{length, getD, replicate}
+use lib.ListN.{length, getD, take, drop, replicate}
 use lib.Seq.{ext-getD}
 use Rattle.quotient.specs.Residue.{Words, none, more, Residue, sum, scale, constant, shift, top, timesX, product, power, residueOfX, substitute, modulusAt}
 
@@ -58,6 +58,22 @@ padded-words h (more {n = k} l w) j = rw Nat.suc-add (more l (padded-words h w j
 pub snoc-words : {p n a : ℕ} {u : List ℕ} → Words p n u → a < p → Words p (suc n) (u ++ a ∷ [])
 snoc-words none k = more k none
 snoc-words (more h w) k = more h (snoc-words w k)
+
+-- parts of a list, and two lists in a row
+
+pub take-words : {p m : ℕ} {u : List ℕ} → Words p m u → (n : ℕ) → n ≤ m → Words p n (take n u)
+take-words w zero h = none
+take-words none (suc n) h = absurd (omega arith)
+take-words (more a w) (suc n) h = more a (take-words w n (omega arith))
+
+pub drop-words : {p m : ℕ} {u : List ℕ} → Words p m u → (n : ℕ) → Words p (m - n) (drop n u)
+drop-words w zero = rw Nat.sub-zero w
+drop-words none (suc n) = rw Nat.zero-sub none
+drop-words (more a w) (suc n) = rw Nat.suc-sub-suc (drop-words w n)
+
+pub append-words : {p m n : ℕ} {u v : List ℕ} → Words p m u → Words p n v → Words p (m + n) (u ++ v)
+append-words none v = rw Nat.zero-add v
+append-words (more a w) v = rw Nat.suc-add (more a (append-words w v))
 
 pub constant-zero : (n : ℕ) → constant n 0 ≡ replicate n 0
 unfolding constant

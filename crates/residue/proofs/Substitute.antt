@@ -1,7 +1,7 @@
 -- Substitution by Horner's rule on arrays: w ↦ S·w + c, where adding the constant c changes the lowest word only.
 use mathlib.Core.Path.{_≡_, refl, sym, ap, ap₂, _∙_}
 use mathlib.Core.List.{List, [], _∷_}
-use Prim.Native.Nat.{ℕ, zero, suc, _+_, _-_, _%_, _^_, _≤_, _<_}
+use Prim.Native.Nat.{ℕ, suc, _+_, _-_, _%_, _^_, _≤_, _<_}
 use native.Mathlib.Nat as Nat
 use native.Mathlib.Omega.{arith}
 use lib.ListN.{length, getD, take, drop, set, replicate, drop-of-length-le}
@@ -11,7 +11,7 @@ use mir.Val.{Fits}
 use Rattle.quotient.specs.Residue.{Words, none, more, sum, constant, product, substitute}
 use Rattle.algebra.proofs.RingLaws.{mul-zero}
 use Rattle.quotient.proofs.Sums.{sum-zero}
-use Rattle.quotient.proofs.Words.{words-length, constant-words, product-words, substitute-words}
+use Rattle.quotient.proofs.Words.{words-length, drop-words, constant-words, product-words, substitute-words}
 use Rattle.quotient.proofs.Ring.{residueRing, mulResidue, zeroResidue, constantResidue}
 use Rattle.quotient.specs.Array.{padded, Holds}
 use Rattle.quotient.proofs.Padded.{holds-word, holds-is, front-is}
@@ -27,11 +27,6 @@ constant-sum : {p n : ℕ} {u : List ℕ} → 1 ≤ n → Words p n u → (c : �
 unfolding sum constant padded
 constant-sum h none c = absurd (omega arith)
 constant-sum {p} h (more {a = a} k w) c = rw (zeros-sum w, Nat.add-comm c a)
-
-words-drop : {p n : ℕ} {u : List ℕ} → Words p n u → (i : ℕ) → Words p (n - i) (drop i u)
-words-drop {n = n} w zero = rw (Nat.sub-zero n) w
-words-drop none (suc i) = rw (Nat.zero-sub (suc i)) none
-words-drop (more {n = m} h w) (suc i) = rw (Nat.suc-sub-suc m i) (words-drop w i)
 
 -- the value of the words from i − 1 on, from that of the words from i on
 substitute-at : (p n i : ℕ) (t s u : List ℕ) → 0 < i → i ≤ n → length (take n u) ≡ n
@@ -70,7 +65,7 @@ substitute-done p i t s u w h e =
 module _ (p n i : ℕ) (t s u w : List ℕ) (e : w ≡ padded (substitute p (take n t) (take n s) (drop i (take n u))))
     (big : 2 ≤ p) (x : Holds p n t) (y : Holds p n s) (z : Holds p n u) where
   rest-words : Words p n (substitute p (take n t) (take n s) (drop i (take n u)))
-  rest-words = substitute-words big (x .words) (y .words) (words-drop (z .words) i)
+  rest-words = substitute-words big (x .words) (y .words) (drop-words (z .words) i)
 
   pub substitute-holds : Holds p n w
   substitute-holds = holds-is e rest-words

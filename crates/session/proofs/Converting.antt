@@ -14,14 +14,13 @@ use lib.Seq.{length-take-le, drop-drop, take-at, take-all}
 use borrow.Rule.Slice.PartMut.{putMid, postOf, same-len-mid}
 use Rattle.algebra.specs.Lists.{range}
 use Rattle.quotient.specs.Residue.{Words, none, more, substitute}
-use Rattle.quotient.proofs.Words.{words-length, substitute-words}
+use Rattle.quotient.proofs.Words.{words-length, take-words, drop-words, substitute-words}
 use Rattle.quotient.specs.Array.{padded, Holds, rowProduct}
 use Rattle.residue.specs.Matrix.{Powers, matrixProduct}
 use Rattle.residue.proofs.Answers.{words-up}
 use Rattle.residue.proofs.PowerMatrix.{product-substitutes}
 use Rattle.quotient.proofs.Padded.{holds-is, front-is, take-padded}
 use Rattle.session.specs.Session.{converted, tableNumber}
-use Rattle.session.proofs.Groups.{take-words, drop-words}
 use Rattle.session.proofs.Table.{Convertible, table-given}
 
 pub record Progress (p n : ℕ) (t s table out m : List ℕ) (i : ℕ) : Type 0 where

@@ -12,8 +12,8 @@ use native.Mathlib.Omega.{arith}
 use lib.ListN.{length, take, drop, length-append, length-replicate, take-append-drop}
 use lib.Seq.{take-at, drop-at, drop-drop}
 use Rattle.quotient.specs.Map.{Undoes}
-use Rattle.quotient.specs.Residue.{Words, none, more, sum, scale, constant, shift, timesX, product, substitute}
-use Rattle.quotient.proofs.Words.{substitute-words}
+use Rattle.quotient.specs.Residue.{Words, none, sum, scale, constant, shift, timesX, product, substitute}
+use Rattle.quotient.proofs.Words.{take-words, drop-words, append-words, substitute-words}
 use Rattle.session.specs.Session.{converted}
 
 -- lengths, of lists of any words
@@ -91,20 +91,6 @@ module _ (p n : ℕ) (t s : List ℕ) (l : length t ≡ n) where
       ∙ ap (λ xs. substitute p t s (take n xs)) (sym (drop-groups j table))
 
 -- tables of words below p
-
-pub take-words : {p m : ℕ} {u : List ℕ} → Words p m u → (n : ℕ) → n ≤ m → Words p n (take n u)
-take-words w zero h = none
-take-words none (suc n) h = absurd (omega arith)
-take-words (more a w) (suc n) h = more a (take-words w n (omega arith))
-
-pub drop-words : {p m : ℕ} {u : List ℕ} → Words p m u → (n : ℕ) → Words p (m - n) (drop n u)
-drop-words w zero = rw Nat.sub-zero w
-drop-words none (suc n) = rw Nat.zero-sub none
-drop-words (more a w) (suc n) = rw Nat.suc-sub-suc (drop-words w n)
-
-append-words : {p m n : ℕ} {u v : List ℕ} → Words p m u → Words p n v → Words p (m + n) (u ++ v)
-append-words none v = rw Nat.zero-add v
-append-words (more a w) v = rw Nat.suc-add (more a (append-words w v))
 
 later-words : {p : ℕ} (n k : ℕ) {u : List ℕ} → Words p (suc k * n) u → Words p n (take n u) × Words p (k * n) (drop n u)
 later-words {p} n k {u} w =
