@@ -39,7 +39,8 @@ extern "C" {
 uint32_t yokebean_check(uint32_t p, uint32_t n, const uint16_t *t1, size_t t1_len, const uint16_t *t2, size_t t2_len,
                         const uint16_t *s, size_t s_len, const uint16_t *r, size_t r_len);
 
-/* Writes the pair of Allombert's Algorithm 2.1 into s_out and r_out, two lists of n words. 1 to 7. */
+/* Writes the pair of Allombert's Algorithm 2.1, with the smallest zeta and c from 1 to p - 1 and eigenvectors whose first coefficient that is
+ * not zero is 1, into s_out and r_out, two lists of n words. 1 to 7. */
 uint32_t yokebean_find(uint32_t p, uint32_t n, const uint16_t *t1, size_t t1_len, const uint16_t *t2, size_t t2_len,
                        uint16_t *s_out, size_t s_len, uint16_t *r_out, size_t r_len);
 
@@ -63,11 +64,12 @@ typedef struct {
 /* Reads a card; its coefficients go into the first places of 64 lent words, the rest become 0. 3, 11, 1, 12, 11, 13, 4. */
 yokebean_card yokebean_read_card(const uint8_t *card, size_t card_len, uint16_t *words, size_t words_len);
 
-/* Writes a card of 2n (kind 1) or 4n (kind 2) coefficients into a list of exactly its length, at most 131 bytes. 1, 2, 12, 3, 4. */
+/* Writes a card of 2n (kind 1) or 4n (kind 2) coefficients into a list of exactly its length: (24 + 2*kind*n*w + 7) / 8 bytes, rounded down,
+ * where w is the number of binary digits of p - 1; at most 131. 1, 2, 12, 3, 4. */
 uint32_t yokebean_write_card(uint32_t p, uint32_t n, uint32_t kind, const uint16_t *words, size_t words_len, uint8_t *card, size_t card_len);
 
 /* A session's value: state 0 is empty, 1 loaded (p, n, t1, t2), 2 paired (also s, r); the first n words of each array count. A value with
- * another state, or with a p, n or coefficient that 1, 2 or 4 refuses, counts as a new one. */
+ * another state, or with a p, n or coefficient, of those that its state has, that 1, 2 or 4 refuses, counts as a new one. */
 typedef struct {
     uint32_t state, p, n;
     uint16_t t1[16], t2[16], s[16], r[16];

@@ -27,15 +27,15 @@ const NUMBERS: [(Refusal, u32); 17] = [
 /// Why a call was refused.
 #[derive(Clone, Copy, Debug, PartialEq, Eq)]
 pub enum Refusal {
-    /// P is below 2, above 65,535 or not prime.
+    /// `p` is below 2, above 65,535 or not prime.
     NotPrime,
-    /// N is not 1 to 16.
+    /// `n` is not 1 to 16.
     Degree,
-    /// A list of coefficients has the wrong length.
+    /// A list of coefficients, read or written, or the list for a card has the wrong length.
     Length,
     /// A coefficient is p or more.
     Word,
-    /// N does not divide p − 1.
+    /// `n` does not divide p − 1.
     DegreeDoesNotDivide,
     /// T1 has a monic divisor of degree 1 to n − 1.
     FirstModulusFactors,
@@ -147,7 +147,7 @@ pub fn read_card(card: &[u8], words: &mut [u16]) -> Result<Card, Refusal> {
     answer(found.number, Card { size: Size { p: found.p, n: found.n }, kind: found.kind })
 }
 
-/// Writes a card into a list of exactly its length.
+/// Writes a card into a list of exactly its length: (24 + 2·kind·n·w + 7) / 8 bytes, rounded down, where w is the number of binary digits of p − 1.
 pub fn write_card(card: Card, words: &[u16], out: &mut [u8]) -> Result<(), Refusal> {
     let Card { size: Size { p, n }, kind } = card;
     let number = unsafe { raw::yokebean_write_card(p, n, kind, words.as_ptr(), words.len(), out.as_mut_ptr(), out.len()) };
