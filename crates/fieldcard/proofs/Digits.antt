@@ -8,7 +8,7 @@ use borrow.Author.Tests.{lt-ltb, le-ltb}
 use lib.Dec.{ltb}
 use lib.ListN.{length, take}
 use lib.Seq.{length-take-le}
-use Rattle.fieldcard.specs.Answer.{byKind, decimal, hexadecimal, hexadecimalDigit}
+use Rattle.fieldcard.specs.Answer.{decimal, hexadecimal, hexadecimalDigit}
 use Rattle.fieldcard.specs.Text.{Appended}
 use Rattle.fieldcard.proofs.Append.{append-both}
 
@@ -29,11 +29,11 @@ hexadecimal-room at i m xs before after h l same room = omega (arith, h .end-is,
 
 pub digit-low : (d : ℕ) → d < 10 → 48 + d ≡ hexadecimalDigit d
 unfolding hexadecimalDigit
-digit-low d h = rw (lt-ltb d 10 h)
+digit-low d h = rw (lt-ltb d 10 h, hexadecimalDigit)
 
 pub digit-high : (d : ℕ) → 10 ≤ d → 55 + d ≡ hexadecimalDigit d
 unfolding hexadecimalDigit
-digit-high d h = rw (le-ltb d 10 h)
+digit-high d h = rw (le-ltb d 10 h, hexadecimalDigit)
 
 -- two digits, one behind the other
 module _ (at m r a b : ℕ) (before between after : List ℕ) (h : Appended at (a ∷ []) before between m) (k : Appended m (b ∷ []) between after r) where
@@ -46,16 +46,16 @@ module _ (at m r a b : ℕ) (before between after : List ℕ) (h : Appended at (
 
   pub append-tens : (d : ℕ) → 10 ≤ d → a ≡ 48 + d / 10 → b ≡ 48 + d % 10 → Appended at (decimal d) before after r
   unfolding decimal
-  append-tens d l tens ones = rw (le-ltb d 10 l, ← tens, ← ones) both
+  append-tens d l tens ones = rw (le-ltb d 10 l, decimal, ← tens, ← ones) both
 
 pub append-ones : (at r d : ℕ) (before after : List ℕ) → d < 10 → Appended at ((48 + d) ∷ []) before after r → Appended at (decimal d) before after r
 unfolding decimal
-append-ones at r d before after l h = rw (lt-ltb d 10 l) h
+append-ones at r d before after l h = rw (lt-ltb d 10 l, decimal) h
 
 pub decimal-length : (d : ℕ) → length (decimal d) ≤ 2
 unfolding decimal
 decimal-length d = by-size (ltb d 10)
   where
-    by-size : (b : Bool) → length (byKind b ((48 + d) ∷ []) ((48 + d / 10) ∷ (48 + d % 10) ∷ [])) ≤ 2
+    by-size : (b : Bool) → length {A = ℕ} (elim b [ true ↦ (48 + d) ∷ [] | false ↦ (48 + d / 10) ∷ (48 + d % 10) ∷ [] ]) ≤ 2
     by-size true = omega arith
     by-size false = omega arith

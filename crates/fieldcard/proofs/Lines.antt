@@ -4,8 +4,8 @@ use mathlib.Core.List.{List, [], _∷_, _++_}
 use Prim.Native.Nat.{ℕ, _+_, _≤_, _<_}
 use native.Mathlib.Omega.{arith}
 use lib.ListN.{length, length-append}
-use Rattle.fieldcard.specs.Answer.{decimal, hexadecimal, refusedText, validText}
-use Rattle.fieldcard.specs.Text.{Appended, Begins, pairLine}
+use Rattle.fieldcard.specs.Answer.{decimal, hexadecimal, pairText, refusedText, validText}
+use Rattle.fieldcard.specs.Text.{Appended, Begins}
 use Rattle.fieldcard.proofs.Append.{append-both, begins}
 use Rattle.fieldcard.proofs.Digits.{decimal-length, hexadecimal-length}
 
@@ -22,8 +22,8 @@ module _ (ys : List ℕ) {m k : ℕ} {t t1 t2 : List ℕ} (a : Appended 0 (80 �
   pub pair-room : 268 ≤ length t2 → k < length t2
   pair-room room = omega (arith, a .end-is, b .end-is, hexadecimal-length ys)
 
-  pub pair-line : {r : ℕ} {t3 : List ℕ} → Appended k (10 ∷ []) t2 t3 r → 268 ≤ length t3 → Begins (pairLine ys) t3 r
-  unfolding pairLine
+  pub pair-line : {r : ℕ} {t3 : List ℕ} → Appended k (10 ∷ []) t2 t3 r → 268 ≤ length t3 → Begins (pairText ys) t3 r
+  unfolding pairText
   pair-line c room = three a b c (omega (arith, hexadecimal-length ys))
 
 -- `REFUSED `, the digits of a number and a newline

@@ -4,36 +4,25 @@ use mathlib.Core.List.{List, [], _∷_}
 use Prim.Native.Nat.{ℕ, _-_, _%_, _<_}
 use native.Mathlib.Omega.{arith}
 use lib.Dec.{ltb, eqb}
-use lib.ListN.{length, replicate}
+use lib.ListN.{length}
 use Rattle.algebra.specs.Lists.{all}
-use Rattle.modular.specs.Refusal.{refuse, badPrime, badDegree, badLength, badWord}
+use Rattle.modular.specs.Refusal.{refuse, badPrime, badLength, badWord}
 use Rattle.quotient.specs.DivisorTest.{hasDivisor}
 use Rattle.card.specs.Card.{badKind, cardLength, cardPrime, cardDegree, cardKind, cardWords, fillBits, readNumber}
-use Rattle.finder.specs.Finder.{findNumber}
-use Rattle.pair.specs.Pair.{accepts, checkNumber}
-use Rattle.fieldcard.specs.Parts.{pairFault}
+use Rattle.finder.specs.Finder.{pairNumber}
+use Rattle.pair.specs.Pair.{accepts}
 
 small : (k : ℕ) (b : Bool) (rest : ℕ) → k < 100 → rest < 100 → refuse k b rest < 100
 small k true rest h l = h
 small k false rest h l = l
 
-pub check-small : (p n : ℕ) (t1 t2 s r : List ℕ) → checkNumber p n t1 t2 s r < 100
-unfolding checkNumber
-check-small p n t1 t2 s r =
-    small 1 (badPrime p) _ (omega arith)
-    (small 2 (badDegree n) _ (omega arith)
-    (small 3 (badLength n (t1 ∷ t2 ∷ s ∷ r ∷ [])) _ (omega arith)
-    (small 4 (badWord p (t1 ∷ t2 ∷ s ∷ r ∷ [])) _ (omega arith) (small 8 (not (accepts p t1 t2 s r)) 0 (omega arith) (omega arith)))))
+pub check-small : (p : ℕ) (t1 t2 s r : List ℕ) → refuse 8 (not (accepts p t1 t2 s r)) 0 < 100
+check-small p t1 t2 s r = small 8 (not (accepts p t1 t2 s r)) 0 (omega arith) (omega arith)
 
-pub find-small : (p n : ℕ) (t1 t2 : List ℕ) → pairFault p n t1 t2 < 100
-unfolding pairFault findNumber
+pub find-small : (p n : ℕ) (t1 t2 : List ℕ) → pairNumber p n t1 t2 < 100
 find-small p n t1 t2 =
-    small 1 (badPrime p) _ (omega arith)
-    (small 2 (badDegree n) _ (omega arith)
-    (small 3 (badLength n (t1 ∷ t2 ∷ replicate n 0 ∷ replicate n 0 ∷ [])) _ (omega arith)
-    (small 4 (badWord p (t1 ∷ t2 ∷ [])) _ (omega arith)
-    (small 5 (not (eqb ((p - 1) % n) 0)) _ (omega arith)
-    (small 6 (hasDivisor p t1) _ (omega arith) (small 7 (hasDivisor p t2) 0 (omega arith) (omega arith)))))))
+    small 5 (not (eqb ((p - 1) % n) 0)) _ (omega arith)
+    (small 6 (hasDivisor p t1) _ (omega arith) (small 7 (hasDivisor p t2) 0 (omega arith) (omega arith)))
 
 pub read-small : (ys out : List ℕ) → readNumber ys out < 100
 unfolding readNumber

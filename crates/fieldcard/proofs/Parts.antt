@@ -4,7 +4,7 @@ use mathlib.Core.List.{List}
 use Prim.Native.Nat.{ℕ, _-_, _*_}
 use native.Mathlib.Omega.{arith}
 use lib.ListN.{take, drop}
-use Rattle.fieldcard.specs.Parts.{part}
+use Rattle.fieldcard.specs.Answer.{part}
 
 module _ (n : ℕ) (words : List ℕ) where
   between : (k count start : ℕ) → n ≡ count → k * n ≡ start → part n words k ≡ take count (drop start words)

@@ -1,13 +1,18 @@
 -- What is printed where a number decides: the line of a refusal, or the text that follows the answer 0.
 use mathlib.Core.Path.{_≡_, refl, sym, ap, subst, _∙_}
+use mathlib.Core.Bool.{not}
 use mathlib.Core.List.{List}
 use Prim.Native.Nat.{ℕ, zero, suc, _*_, _<_}
 use lib.ListN.{take, replicate}
+use Rattle.modular.specs.Refusal.{refuse}
 use Rattle.card.specs.Card.{card, cardLength, writeNumber}
-use Rattle.pair.specs.Pair.{checkNumber}
-use Rattle.fieldcard.specs.Answer.{refusedText, validText}
-use Rattle.fieldcard.specs.Parts.{part, printed, pairFault, pairWords, checkText, jobText, Found}
-use Rattle.fieldcard.specs.Text.{Begins, pairLine}
+use Rattle.finder.specs.Finder.{pairNumber}
+use Rattle.pair.specs.Pair.{accepts, checkNumber}
+use Rattle.pair.specs.Theorem.{Models, Given}
+use Rattle.fieldcard.specs.Answer.{part, pairText, validText, refusedText, printed, pairWords, jobText, pairCardText}
+use Rattle.fieldcard.specs.Found.{Found}
+use Rattle.fieldcard.specs.Text.{Begins}
+use Rattle.fieldcard.proofs.GoesOn.{check-goes-on}
 use Rattle.fieldcard.proofs.Numbers.{check-small, find-small}
 use Rattle.fieldcard.proofs.Writable.{pair-writable}
 
@@ -16,7 +21,7 @@ unfolding printed
 printed-refusal zero text h = absurd (h refl)
 printed-refusal (suc k) text h = refl
 
-printed-text : (number : ℕ) (text : List ℕ) → number ≡ 0 → text ≡ printed number text
+pub printed-text : (number : ℕ) (text : List ℕ) → number ≡ 0 → text ≡ printed number text
 unfolding printed
 printed-text number text e = sym (ap (λ k. printed k text) e)
 
@@ -24,8 +29,8 @@ instead : {xs ys list : List ℕ} {end : ℕ} → xs ≡ ys → Begins xs list e
 instead {list = list} {end} e h = subst (λ l. Begins l list end) e h
 
 -- a line with the bytes that a list begins with
-pub line-of : (size end : ℕ) (ys list text : List ℕ) → Begins ys list size → Begins (pairLine (take size list)) text end → Begins (pairLine ys) text end
-line-of size end ys list text b h = instead (ap pairLine (b .text-is)) h
+pub line-of : (size end : ℕ) (ys list text : List ℕ) → Begins ys list size → Begins (pairText (take size list)) text end → Begins (pairText ys) text end
+line-of size end ys list text b h = instead (ap pairText (b .text-is)) h
 
 module _ (p n number : ℕ) (words after : List ℕ) (found : Found p n words after number) where
   pub job-small : number < 100
@@ -34,28 +39,31 @@ module _ (p n number : ℕ) (words after : List ℕ) (found : Found p n words af
   pub job-refusal : (end : ℕ) (text : List ℕ) → (number ≡ 0 → ⊥) → Begins (refusedText number) text end → Begins (jobText p n (part n words 0) (part n words 1)) text end
   unfolding jobText
   job-refusal end text h b =
-      let line : List ℕ = pairLine (card p n 2 (pairWords p n (part n words 0) (part n words 1))) in
+      let line : List ℕ = pairText (card p n 2 (pairWords p n (part n words 0) (part n words 1))) in
       instead (printed-refusal number line h ∙ ap (λ k. printed k line) (found .number-is)) b
 
   module _ (none : number ≡ 0) where
-    fault : pairFault p n (part n words 0) (part n words 1) ≡ 0
-    fault = sym (found .number-is) ∙ none
+    goes-on : pairNumber p n (part n words 0) (part n words 1) ≡ 0
+    goes-on = sym (found .number-is) ∙ none
 
-    pub job-writable : writeNumber p n 2 (take (4 * n) after) (replicate (cardLength p n 2) 0) ≡ 0
-    job-writable = rw (found .words-are none) (pair-writable p n (part n words 0) (part n words 1) fault)
+    pub job-writable : Models p n (part n words 0) (part n words 1) → writeNumber p n 2 (take (4 * n) after) (replicate (cardLength p n 2) 0) ≡ 0
+    job-writable m = rw (found .words-are none) (pair-writable p n (part n words 0) (part n words 1) m goes-on)
 
-    pub job-line : (end : ℕ) (text : List ℕ) → Begins (pairLine (card p n 2 (take (4 * n) after))) text end → Begins (jobText p n (part n words 0) (part n words 1)) text end
+    pub job-line : (end : ℕ) (text : List ℕ) → Begins (pairText (card p n 2 (take (4 * n) after))) text end → Begins (jobText p n (part n words 0) (part n words 1)) text end
     unfolding jobText
-    job-line end text b = instead (ap (λ l. pairLine (card p n 2 l)) (found .words-are none) ∙ printed-text _ _ fault) b
+    job-line end text b = instead (ap (λ l. pairText (card p n 2 l)) (found .words-are none) ∙ printed-text _ _ goes-on) b
 
-module _ (p n number : ℕ) (t1 t2 s r : List ℕ) (e : number ≡ checkNumber p n t1 t2 s r) where
+module _ (p n number : ℕ) (t1 t2 s r : List ℕ) (e : number ≡ checkNumber p n t1 t2 s r) (g : Given p n t1 t2 s r) where
+  number-is : number ≡ refuse 8 (not (accepts p t1 t2 s r)) 0
+  number-is = e ∙ check-goes-on p n t1 t2 s r g
+
   pub number-small : number < 100
-  number-small = rw e (check-small p n t1 t2 s r)
+  number-small = rw number-is (check-small p t1 t2 s r)
 
-  pub check-refusal : (end : ℕ) (text : List ℕ) → (number ≡ 0 → ⊥) → Begins (refusedText number) text end → Begins (checkText p n t1 t2 s r) text end
-  unfolding checkText
-  check-refusal end text h b = instead (printed-refusal number validText h ∙ ap (λ k. printed k validText) e) b
+  pub check-refusal : (end : ℕ) (text : List ℕ) → (number ≡ 0 → ⊥) → Begins (refusedText number) text end → Begins (pairCardText p t1 t2 s r) text end
+  unfolding pairCardText
+  check-refusal end text h b = instead (printed-refusal number validText h ∙ ap (λ k. printed k validText) number-is) b
 
-  pub check-valid : (end : ℕ) (text : List ℕ) → number ≡ 0 → Begins validText text end → Begins (checkText p n t1 t2 s r) text end
-  unfolding checkText
-  check-valid end text h b = instead (printed-text (checkNumber p n t1 t2 s r) validText (sym e ∙ h)) b
+  pub check-valid : (end : ℕ) (text : List ℕ) → number ≡ 0 → Begins validText text end → Begins (pairCardText p t1 t2 s r) text end
+  unfolding pairCardText
+  check-valid end text h b = instead (printed-text _ validText (sym number-is ∙ h)) b

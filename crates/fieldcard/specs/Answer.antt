@@ -1,61 +1,45 @@
 -- What the program `fieldcard` prints for a byte string (document 01, "Field cards"), as ASCII codes.
---   cardPart ys k      the k-th list of n words on the card: T1, T2, S, R
---   jobNumber ys       a job goes on with 5, 6, 7
---   pairNumber ys      a pair card goes on with 8
---   answerNumber ys    the number of the first refusal: the reader's, then the job's or the pair's; 0 where there is none
---   pairCard ys        the pair card of a job: T1, T2 and the finder's pair
---   decimal k          the decimal digits of k, which is below 100
---   hexadecimal ys     the bytes in upper-case hexadecimal
---   answerText ys      what is printed: `PAIR ` and the pair card, `VALID`, or `REFUSED ` and the number; then a newline
-use mathlib.Core.Bool.{Bool, true, false}
+--   part n words k             the k-th list of n words: T1, T2, S, R
+--   cardPart ys k              that list on a card
+--   decimal k                  the decimal digits of k, which is below 100
+--   hexadecimal ys             the bytes in upper-case hexadecimal
+--   pairText ys                `PAIR `, the bytes of a pair card in hexadecimal, and a newline
+--   validText                  `VALID` and a newline
+--   refusedText k              `REFUSED `, the decimal number, newline
+--   printed number text        the refusal with this number, or the text where the number is 0
+--   pairWords p n t1 t2        what the pair card of a job carries: T1, T2 and the finder's S and R
+--   jobText p n t1 t2          a job: "the program then goes on with 5, 6, 7"; where none applies, the pair card
+--   pairCardText p t1 t2 s r   a pair card: it goes on with 8; where that does not apply, `VALID`
+--   cardText ys                by the card's kind: 1 is a job
+--   answerText ys              what is printed: the reader's refusal, or what the card that it takes prints
+use mathlib.Core.Bool.{true, false, not}
 use mathlib.Core.List.{List, [], _∷_, _++_}
 use Prim.Native.Nat.{ℕ, zero, suc, _+_, _*_, _/_, _%_}
 use lib.Dec.{ltb, eqb}
 use lib.ListN.{take, drop, replicate}
+use Rattle.modular.specs.Refusal.{refuse}
 use Rattle.card.specs.Card.{card, cardPrime, cardDegree, cardKind, cardWords, readNumber}
-use Rattle.finder.specs.Finder.{findNumber, findS, findR}
-use Rattle.pair.specs.Pair.{checkNumber}
+use Rattle.finder.specs.Finder.{findS, findR, pairNumber}
+use Rattle.pair.specs.Pair.{accepts}
+
+unfoldable pub part : ℕ → List ℕ → ℕ → List ℕ
+part n words k = take n (drop (k * n) words)
 
 unfoldable pub cardPart : List ℕ → ℕ → List ℕ
-cardPart ys k = take (cardDegree ys) (drop (k * cardDegree ys) (cardWords ys))
-
-unfoldable pub jobNumber : List ℕ → ℕ
-jobNumber ys =
-    findNumber (cardPrime ys) (cardDegree ys) (cardPart ys 0) (cardPart ys 1) (replicate (cardDegree ys) 0) (replicate (cardDegree ys) 0)
-
-unfoldable pub pairNumber : List ℕ → ℕ
-pairNumber ys = checkNumber (cardPrime ys) (cardDegree ys) (cardPart ys 0) (cardPart ys 1) (cardPart ys 2) (cardPart ys 3)
-
--- by the card's kind: a job, kind 1, or a pair card
-abbrev pub byKind : {A : Type 0} → Bool → A → A → A
-byKind true job pair = job
-byKind false job pair = pair
-
-unfoldable pub answerNumber : List ℕ → ℕ
-answerNumber ys =
-    elim (readNumber ys (replicate 64 0)) [ zero ↦ byKind (eqb (cardKind ys) 1) (jobNumber ys) (pairNumber ys) | suc k ↦ suc k ]
-
-unfoldable pub pairCard : List ℕ → List ℕ
-pairCard ys =
-    card (cardPrime ys) (cardDegree ys) 2
-    (cardPart ys 0
-    ++ (cardPart ys 1
-    ++ (findS (cardPrime ys) (cardDegree ys) (cardPart ys 0) (cardPart ys 1)
-    ++ findR (cardPrime ys) (cardDegree ys) (cardPart ys 0) (cardPart ys 1))))
+cardPart ys k = part (cardDegree ys) (cardWords ys) k
 
 unfoldable pub decimal : ℕ → List ℕ
-decimal k = byKind (ltb k 10) ((48 + k) ∷ []) ((48 + k / 10) ∷ (48 + k % 10) ∷ [])
+decimal k = elim (ltb k 10) [ true ↦ (48 + k) ∷ [] | false ↦ (48 + k / 10) ∷ (48 + k % 10) ∷ [] ]
 
 unfoldable pub hexadecimalDigit : ℕ → ℕ
-hexadecimalDigit d = byKind (ltb d 10) (48 + d) (55 + d)
+hexadecimalDigit d = elim (ltb d 10) [ true ↦ 48 + d | false ↦ 55 + d ]
 
 unfoldable pub hexadecimal : List ℕ → List ℕ
 hexadecimal [] = []
 hexadecimal (y ∷ ys) = hexadecimalDigit (y / 16) ∷ hexadecimalDigit (y % 16) ∷ hexadecimal ys
 
--- `PAIR `, `VALID` and `REFUSED `
 unfoldable pub pairText : List ℕ → List ℕ
-pairText ys = 80 ∷ 65 ∷ 73 ∷ 82 ∷ 32 ∷ (hexadecimal (pairCard ys) ++ (10 ∷ []))
+pairText ys = 80 ∷ 65 ∷ 73 ∷ 82 ∷ 32 ∷ (hexadecimal ys ++ (10 ∷ []))
 
 unfoldable pub validText : List ℕ
 validText = 86 ∷ 65 ∷ 76 ∷ 73 ∷ 68 ∷ 10 ∷ []
@@ -63,6 +47,24 @@ validText = 86 ∷ 65 ∷ 76 ∷ 73 ∷ 68 ∷ 10 ∷ []
 unfoldable pub refusedText : ℕ → List ℕ
 refusedText k = 82 ∷ 69 ∷ 70 ∷ 85 ∷ 83 ∷ 69 ∷ 68 ∷ 32 ∷ (decimal k ++ (10 ∷ []))
 
+unfoldable pub printed : ℕ → List ℕ → List ℕ
+printed number text = elim number [ zero ↦ text | suc k ↦ refusedText (suc k) ]
+
+unfoldable pub pairWords : ℕ → ℕ → List ℕ → List ℕ → List ℕ
+pairWords p n t1 t2 = t1 ++ (t2 ++ (findS p n t1 t2 ++ findR p n t1 t2))
+
+unfoldable pub jobText : ℕ → ℕ → List ℕ → List ℕ → List ℕ
+jobText p n t1 t2 = printed (pairNumber p n t1 t2) (pairText (card p n 2 (pairWords p n t1 t2)))
+
+unfoldable pub pairCardText : ℕ → List ℕ → List ℕ → List ℕ → List ℕ → List ℕ
+pairCardText p t1 t2 s r = printed (refuse 8 (not (accepts p t1 t2 s r)) 0) validText
+
+unfoldable pub cardText : List ℕ → List ℕ
+cardText ys =
+    elim (eqb (cardKind ys) 1) [
+      | true ↦ jobText (cardPrime ys) (cardDegree ys) (cardPart ys 0) (cardPart ys 1)
+      | false ↦ pairCardText (cardPrime ys) (cardPart ys 0) (cardPart ys 1) (cardPart ys 2) (cardPart ys 3)
+    ]
+
 unfoldable pub answerText : List ℕ → List ℕ
-answerText ys =
-    elim (answerNumber ys) [ zero ↦ byKind (eqb (cardKind ys) 1) (pairText ys) validText | suc k ↦ refusedText (suc k) ]
+answerText ys = printed (readNumber ys (replicate 64 0)) (cardText ys)

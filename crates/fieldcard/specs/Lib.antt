@@ -1,5 +1,5 @@
 -- What the program prints, what the contracts of its functions cite, and what is proved of the text.
 pub mod Answer
 pub mod Text
-pub mod Parts
+pub mod Found
 pub mod Theorem

@@ -1,13 +1,11 @@
 -- What the contracts on the text cite.
 --   Appended at xs before after end   the list after the call has xs behind its first `at` elements, and `end` is the place behind them
 --   Begins xs list end                the list begins with xs, and `end` is the place behind them
---   pairLine ys                       `PAIR `, the bytes ys of a pair card and a newline
 use mathlib.Core.Path.{_≡_}
-use mathlib.Core.List.{List, [], _∷_, _++_}
+use mathlib.Core.List.{List, _++_}
 use Prim.Native.Nat.{ℕ, _+_}
 use lib.ListN.{length, take}
 use Rattle.io.specs.Counts.{Counts}
-use Rattle.fieldcard.specs.Answer.{hexadecimal}
 
 pub record Appended (at : ℕ) (xs before after : List ℕ) (end : ℕ) : Type 0 where
   pub end-is : end ≡ at + length xs
@@ -16,6 +14,3 @@ pub record Appended (at : ℕ) (xs before after : List ℕ) (end : ℕ) : Type 0
 pub record Begins (xs list : List ℕ) (end : ℕ) : Type 0 where
   pub text-is : take end list ≡ xs
   pub counts : Counts end list
-
-unfoldable pub pairLine : List ℕ → List ℕ
-pairLine ys = 80 ∷ 65 ∷ 73 ∷ 82 ∷ 32 ∷ (hexadecimal ys ++ (10 ∷ []))

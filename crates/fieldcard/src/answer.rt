@@ -5,9 +5,9 @@ ghost use lib.ListN.{length, replicate, take};
 ghost use Rattle.card.specs.Card.{card, cardLength, writeNumber};
 ghost use Rattle.io.specs.Counts.{Counts};
 ghost use Rattle.pair.specs.Pair.{checkNumber};
-ghost use Rattle.fieldcard.specs.Answer.{answerText};
-ghost use Rattle.fieldcard.specs.Parts.{checkText, jobText, part};
-ghost use Rattle.fieldcard.specs.Text.{Begins, pairLine};
+ghost use Rattle.pair.specs.Theorem.{Models, Given};
+ghost use Rattle.fieldcard.specs.Answer.{answerText, jobText, pairCardText, pairText, part};
+ghost use Rattle.fieldcard.specs.Text.{Begins};
 use crate::job::find_pair;
 use crate::job::write_card;
 use crate::text::put_pair;
@@ -19,7 +19,7 @@ use pair::checker::check;
 // The line of the pair card of the words, to which no refusal of the writer applies.
 fn print_card(p: u32, n: u32, words: &[u16], text: &mut [u8]) -> usize
     requires { ⌜ (writeNumber p n 2 (now words) (replicate (cardLength p n 2) 0) ≡ 0) × (268 ≤ length (now text)) ⌝ }
-    ensures { λ r. ⌜ Begins (pairLine (card p n 2 (now (words .entry)))) (now (text .exit)) r ⌝ }
+    ensures { λ r. ⌜ Begins (pairText (card p n 2 (now (words .entry)))) (now (text .exit)) r ⌝ }
 {
     let mut bytes = [0u8; 131];
     let size = write_card(p, n, words, &mut bytes);
@@ -28,7 +28,7 @@ fn print_card(p: u32, n: u32, words: &[u16], text: &mut [u8]) -> usize
 
 // A job: the words begin with T1 and T2.
 fn answer_job(p: u32, n: u32, words: &mut [u16], text: &mut [u8]) -> usize
-    requires { ⌜ (n ≤ 16) × (length (now words) ≡ 64) × (268 ≤ length (now text)) ⌝ }
+    requires { ⌜ (n ≤ 16) × (length (now words) ≡ 64) × (268 ≤ length (now text)) × Models p n (part n (now words) 0) (part n (now words) 1) ⌝ }
     ensures { λ r. ⌜ Begins (jobText p n (part n (now (words .entry)) 0) (part n (now (words .entry)) 1)) (now (text .exit)) r ⌝ }
 {
     let number = find_pair(p, n, words);
@@ -57,9 +57,10 @@ fn check_in(p: u32, n: u32, words: &[u16]) -> u32
 
 // A pair card: the words begin with T1, T2, S and R.
 fn answer_pair(p: u32, n: u32, words: &[u16], text: &mut [u8]) -> usize
-    requires { ⌜ (n ≤ 16) × (length (now words) ≡ 64) × (268 ≤ length (now text)) ⌝ }
+    requires { ⌜ (n ≤ 16) × (length (now words) ≡ 64) × (268 ≤ length (now text))
+        × Given p n (part n (now words) 0) (part n (now words) 1) (part n (now words) 2) (part n (now words) 3) ⌝ }
     ensures { λ r. ⌜ Begins
-        (checkText p n (part n (now (words .entry)) 0) (part n (now (words .entry)) 1) (part n (now (words .entry)) 2) (part n (now (words .entry)) 3))
+        (pairCardText p (part n (now (words .entry)) 0) (part n (now (words .entry)) 1) (part n (now (words .entry)) 2) (part n (now (words .entry)) 3))
         (now (text .exit)) r ⌝ }
 {
     let number = check_in(p, n, words);

@@ -5,7 +5,9 @@ ghost use Prim.Native.Nat.{_+_, _*_, _≤_};
 ghost use lib.ListN.{length, replicate};
 ghost use Rattle.card.specs.Card.{card, cardLength, writeNumber};
 ghost use Rattle.finder.specs.Finder.{findNumber, findOutputS, findOutputR};
-ghost use Rattle.fieldcard.specs.Parts.{Found, part};
+ghost use Rattle.pair.specs.Theorem.{Models};
+ghost use Rattle.fieldcard.specs.Answer.{part};
+ghost use Rattle.fieldcard.specs.Found.{Found};
 ghost use Rattle.fieldcard.specs.Text.{Appended, Begins};
 use card::layout::bit_count;
 use card::layout::width;
@@ -47,9 +49,10 @@ fn find_in(p: u32, n: u32, words: &[u16], s: &mut [u16], r: &mut [u16]) -> u32
     find(p, n, &words[..k], &words[k..2 * k], s, r)
 }
 
-// The finder's pair for T1 and T2, by way of two lists of n zeros, behind T1 and T2.
+// The finder's pair for T1 and T2, by way of two lists of n words, behind T1 and T2.
 fn find_behind(p: u32, n: u32, words: &mut [u16], s: &mut [u16], r: &mut [u16]) -> u32
-    requires { ⌜ (n ≤ 16) × (length (now words) ≡ 64) × (now s ≡ replicate n 0) × (now r ≡ replicate n 0) ⌝ }
+    requires { ⌜ (n ≤ 16) × (length (now words) ≡ 64) × (length (now s) ≡ n) × (length (now r) ≡ n)
+        × Models p n (part n (now words) 0) (part n (now words) 1) ⌝ }
     ensures { λ number. ⌜ Found p n (now (words .entry)) (now (words .exit)) number ⌝ }
 {
     let number = find_in(p, n, words, s, r);
@@ -59,7 +62,7 @@ fn find_behind(p: u32, n: u32, words: &mut [u16], s: &mut [u16], r: &mut [u16]) 
 
 // The finder's pair for T1 and T2, the first words, behind them: 0, or the number of the refusal.
 pub fn find_pair(p: u32, n: u32, words: &mut [u16]) -> u32
-    requires { ⌜ (n ≤ 16) × (length (now words) ≡ 64) ⌝ }
+    requires { ⌜ (n ≤ 16) × (length (now words) ≡ 64) × Models p n (part n (now words) 0) (part n (now words) 1) ⌝ }
     ensures { λ number. ⌜ Found p n (now (words .entry)) (now (words .exit)) number ⌝ }
 {
     let k = n as usize;

@@ -3,8 +3,8 @@ ghost use mathlib.Core.List.{_∷_, []};
 ghost use mathlib.Core.Path.{_≡_};
 ghost use Prim.Native.Nat.{_+_, _*_, _/_, _%_, _≤_, _<_};
 ghost use lib.ListN.{length};
-ghost use Rattle.fieldcard.specs.Answer.{decimal, hexadecimal, hexadecimalDigit, refusedText, validText};
-ghost use Rattle.fieldcard.specs.Text.{Appended, Begins, pairLine};
+ghost use Rattle.fieldcard.specs.Answer.{decimal, hexadecimal, hexadecimalDigit, pairText, refusedText, validText};
+ghost use Rattle.fieldcard.specs.Text.{Appended, Begins};
 
 // One byte.
 fn put_byte(text: &mut [u8], at: usize, byte: u8) -> usize
@@ -75,7 +75,7 @@ fn put_decimal(text: &mut [u8], at: usize, k: u32) -> usize
 // `PAIR `, the card and a newline: at most 268 bytes.
 pub fn put_pair(text: &mut [u8], card: &[u8]) -> usize
     requires { ⌜ (length (now card) ≤ 131) × (268 ≤ length (now text)) ⌝ }
-    ensures { λ r. ⌜ Begins (pairLine (now (card .entry))) (now (text .exit)) r ⌝ }
+    ensures { λ r. ⌜ Begins (pairText (now (card .entry))) (now (text .exit)) r ⌝ }
 {
     let start = put(text, 0, b"PAIR ");
     let end = put_hexadecimal(text, start, card);

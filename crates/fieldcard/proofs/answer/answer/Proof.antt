@@ -1,7 +1,7 @@
 -- `answer::answer` prints what follows from what the reader says of the card.
 use borrow.Author.Needs.{needs}
 use native.Mathlib.Omega.{arith}
-use Rattle.fieldcard.proofs.Reading.{read-number-small, read-degree, answer-refusal, answer-job, answer-pair}
+use Rattle.fieldcard.proofs.Reading.{read-number-small, read-degree, answer-refusal, job-models, answer-job, pair-given, answer-pair}
 use Rattle.fieldcard.proofs.answer.answer.Statement.{statement}
 use Rattle.fieldcard.proofs.answer.answer.Tie as tie
 
@@ -21,7 +21,7 @@ slice-aggregate-answer-job : tie.Need-slice-aggregate-answer-job
 slice-aggregate-answer-job c = search needs
 
 answer-job-requires : tie.Need-answer-job-requires
-answer-job-requires c κs = (search read-degree, omega arith, omega arith)
+answer-job-requires c κs = (search read-degree, omega arith, omega arith, search job-models)
 
 returns-2 : tie.Need-returns-2
 returns-2 c = (search answer-job, c .before .answer-job .ensures .counts)
@@ -30,7 +30,7 @@ slice-aggregate-answer-pair : tie.Need-slice-aggregate-answer-pair
 slice-aggregate-answer-pair c = search needs
 
 answer-pair-requires : tie.Need-answer-pair-requires
-answer-pair-requires c κs = (search read-degree, omega arith, omega arith)
+answer-pair-requires c κs = (search read-degree, omega arith, omega arith, search pair-given)
 
 returns-3 : tie.Need-returns-3
 returns-3 c = (search answer-pair, c .answer-pair .ensures .counts)

@@ -1,6 +1,6 @@
 -- `job::find_behind` writes what the finder has written behind T1 and T2.
 use borrow.Author.Needs.{needs}
-use Rattle.fieldcard.proofs.Found.{room-behind, found-behind}
+use Rattle.fieldcard.proofs.Found.{found-behind}
 use Rattle.fieldcard.proofs.job.find_behind.Statement.{statement}
 use Rattle.fieldcard.proofs.job.find_behind.Tie as tie
 
@@ -11,7 +11,7 @@ mul-put-both : tie.Need-mul-put-both
 mul-put-both c = search needs
 
 put-both-requires : tie.Need-put-both-requires
-put-both-requires c κs = search room-behind
+put-both-requires c κs = search needs
 
 same-length : tie.Need-same-length
 same-length c = search needs
@@ -27,7 +27,7 @@ returns c =
     let put = c .before .before in
     let find = put .before .before .before .before .before .before .before .before in
     let lent = find .before .before .before .before .before .before .before .pre in
-    found-behind _ _ _ _ _ _ (lent .0) (lent .1) (lent .2) (lent .3) (find .find-in .kept .1 .1 .1 .0) (find .find-in .kept .1 .1 .1 .1 .0) _ _ _ _
+    found-behind _ _ _ _ _ _ _ _ _ _ (lent .2) (lent .3) (find .find-in .kept .1 .1 .1 .0) (find .find-in .kept .1 .1 .1 .1 .0) (lent .4)
     (find .find-in .ensures .0) (find .find-in .ensures .1 .0) (find .find-in .ensures .1 .1) (put .put-both .ensures)
 
 pub find-behind-spec : {M : Type 1} → statement M

@@ -1,7 +1,7 @@
--- `job::find_pair` lends two lists of n zeros.
+-- `job::find_pair` lends two lists of n words.
 use borrow.Author.Needs.{needs}
 use native.Mathlib.Omega.{arith}
-use Rattle.card.proofs.Lists.{take-replicate}
+use lib.Seq.{length-take-le}
 use Rattle.fieldcard.proofs.Append.{prefix-length}
 use Rattle.fieldcard.proofs.job.find_pair.Statement.{statement}
 use Rattle.fieldcard.proofs.job.find_pair.Tie as tie
@@ -19,9 +19,7 @@ slice-aggregate-find-behind-2 : tie.Need-slice-aggregate-find-behind-2
 slice-aggregate-find-behind-2 c = prefix-length _ _ (omega arith)
 
 find-behind-requires : tie.Need-find-behind-requires
-find-behind-requires c κs =
-    let n = c .before .before .before .before .args .n in
-    (omega arith, omega arith, take-replicate n 16 0 (omega arith), take-replicate n 16 0 (omega arith))
+find-behind-requires c κs = (omega arith, omega arith, length-take-le _ _ (omega arith), length-take-le _ _ (omega arith), search needs)
 
 same-length : tie.Need-same-length
 same-length c = search needs
