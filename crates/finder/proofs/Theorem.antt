@@ -1,21 +1,25 @@
 -- The proof of demand 3, as specs/Theorem.antt states it. The checker's half is the theorem of the crate pair. The finder's answer is 0 exactly when
--- none of its refusals applies; for two models and n that divides p − 1 only 6 and 7 are left, which test for proper divisors. Without those the
--- searches find the chosen pair, it satisfies the congruences, and the checker accepts it.
+-- none of its refusals applies; for two models and n that divides p − 1 only 6 and 7 are left, which test for proper divisors, and the test is exact.
+-- Without those the searches find the chosen pair, it satisfies the congruences, and the checker accepts it.
 --   Returned p n t1 t2   what the answer 0 says of two models
+--   decided              where n divides p − 1, what 6 and 7 say is the answer
 use mathlib.Core.Path.{_≡_, refl, sym, ap, ap₂, subst₂, _∙_}
-use mathlib.Core.Bool.{false, not, _&&_}
+use mathlib.Core.Bool.{Bool, true, false, not, _&&_}
 use mathlib.Core.List.{List, [], _∷_}
+use mathlib.Core.Logic.{_↔_}
 use Prim.Native.Nat.{ℕ, zero, suc, _-_, _%_}
 use native.Mathlib.Omega.{arith}
 use lib.ListN.{length}
 use borrow.Author.Tests.{eq-eqb}
 use Rattle.algebra.specs.Lists.{all}
-use Rattle.modular.specs.Refusal.{badLength, written}
+use Rattle.modular.specs.Refusal.{refuse, badLength, written}
 use Rattle.pair.specs.Pair.{checkNumber}
 use Rattle.pair.specs.Theorem.{Models}
 use Rattle.pair.proofs.Theorem.{checker-theorem}
 use Rattle.quotient.specs.Divisor.{HasDivisor}
+use Rattle.quotient.specs.DivisorTest.{hasDivisor}
 use Rattle.modular.proofs.Refusal.{sent-given, given-sent}
+use Rattle.quotient.proofs.Decision.{test-has-divisor, has-divisor-test}
 use Rattle.quotient.proofs.Refusal.{given-words}
 use Rattle.quotient.proofs.Words.{words-length}
 use Rattle.finder.specs.Finder.{findS, findR, findNumber, findOutputS, findOutputR}
@@ -28,6 +32,17 @@ record Returned (p n : ℕ) (t1 t2 : List ℕ) : Type 0 where
   divides : (p - 1) % n ≡ 0
   irreducible1 : HasDivisor p t1 → ⊥
   irreducible2 : HasDivisor p t2 → ⊥
+
+-- which of 6 and 7 applies
+six-says : (a b : Bool) → refuse 6 a (refuse 7 b 0) ≡ 6 → a ≡ true
+six-says true b h = refl
+six-says false true h = absurd (omega arith)
+six-says false false h = absurd (omega arith)
+
+seven-says : (a b : Bool) → refuse 6 a (refuse 7 b 0) ≡ 7 → (a ≡ false) × (b ≡ true)
+seven-says true b h = absurd (omega arith)
+seven-says false true h = (refl, refl)
+seven-says false false h = absurd (omega arith)
 
 module _ (p n : ℕ) (t1 t2 : List ℕ) (models : Models p n t1 t2) (lentS lentR : List ℕ) where
   returned : findNumber p n t1 t2 lentS lentR ≡ 0 → Returned p n t1 t2
@@ -48,23 +63,40 @@ module _ (p n : ℕ) (t1 t2 : List ℕ) (models : Models p n t1 t2) (lentS lentR
       (ap₂ _&&_ (eq-eqb (length t1) n (words-length (models .modulus1)))
       (ap₂ _&&_ (eq-eqb (length t2) n (words-length (models .modulus2))) (ap₂ _&&_ (eq-eqb (length lentS) n lengthS) (ap₂ _&&_ (eq-eqb (length lentR) n lengthR) refl))))
 
-  returns : length lentS ≡ n → length lentR ≡ n → (p - 1) % n ≡ 0 → (HasDivisor p t1 → ⊥) → (HasDivisor p t2 → ⊥) → findNumber p n t1 t2 lentS lentR ≡ 0
-  unfolding findNumber
-  returns lengthS lengthR divides irreducible1 irreducible2 =
-      given-sent p n (t1 ∷ t2 ∷ lentS ∷ lentR ∷ []) (t1 ∷ t2 ∷ []) _
-      (record {
-        prime = models .prime;
-        small = models .small;
-        low = models .degree .0;
-        high = models .degree .1;
-        lengths = lengths-given lengthS lengthR;
-        words = given-words p n (t1 ∷ t2 ∷ []) (models .modulus1, (models .modulus2, tt));
-      })
-      ∙ rw (
-        eq-eqb ((p - 1) % n) 0 divides,
-        irreducible-test p (models .prime) (models .modulus1) irreducible1,
-        irreducible-test p (models .prime) (models .modulus2) irreducible2,
-      )
+  module _ (divides : (p - 1) % n ≡ 0) (lengthS : length lentS ≡ n) (lengthR : length lentR ≡ n) where
+    decided : findNumber p n t1 t2 lentS lentR ≡ refuse 6 (hasDivisor p t1) (refuse 7 (hasDivisor p t2) 0)
+    unfolding findNumber
+    decided =
+        given-sent p n (t1 ∷ t2 ∷ lentS ∷ lentR ∷ []) (t1 ∷ t2 ∷ []) _
+        (record {
+          prime = models .prime;
+          small = models .small;
+          low = models .degree .0;
+          high = models .degree .1;
+          lengths = lengths-given lengthS lengthR;
+          words = given-words p n (t1 ∷ t2 ∷ []) (models .modulus1, (models .modulus2, tt));
+        })
+        ∙ rw (eq-eqb ((p - 1) % n) 0 divides)
+
+    none1 : (HasDivisor p t1 → ⊥) → hasDivisor p t1 ≡ false
+    none1 = irreducible-test p (models .prime) (models .modulus1)
+
+    returns : (HasDivisor p t1 → ⊥) → (HasDivisor p t2 → ⊥) → findNumber p n t1 t2 lentS lentR ≡ 0
+    returns irreducible1 irreducible2 = decided ∙ rw (none1 irreducible1, irreducible-test p (models .prime) (models .modulus2) irreducible2)
+
+    six : (findNumber p n t1 t2 lentS lentR ≡ 6) ↔ HasDivisor p t1
+    six = (
+      λ h. test-has-divisor (models .prime .0) (models .modulus1) (six-says (hasDivisor p t1) (hasDivisor p t2) (sym decided ∙ h)),
+      λ d. decided ∙ rw (has-divisor-test (models .prime .0) (models .modulus1) d),
+    )
+
+    seven : (findNumber p n t1 t2 lentS lentR ≡ 7) ↔ ((HasDivisor p t1 → ⊥) × HasDivisor p t2)
+    seven = (
+      λ h.
+          let (first, second) = seven-says (hasDivisor p t1) (hasDivisor p t2) (sym decided ∙ h) in
+          (test-irreducible p (models .prime) (models .modulus1) first, test-has-divisor (models .prime .0) (models .modulus2) second),
+      λ d. decided ∙ rw (none1 (d .0), has-divisor-test (models .prime .0) (models .modulus2) (d .1)),
+    )
 
 -- the pair that is found is chosen, and the checker accepts it
 found-accepted : (p n : ℕ) (t1 t2 : List ℕ) → Models p n t1 t2 → (p - 1) % n ≡ 0 → (HasDivisor p t1 → ⊥) → (HasDivisor p t2 → ⊥)
@@ -103,8 +135,10 @@ demand-3 p n t1 t2 models =
       accepted = λ s r h. checker-theorem p n t1 t2 s r .0 h .2;
       returns = λ divides lentS lentR lengthS lengthR. (
         λ h. let c : Returned p n t1 t2 = returned p n t1 t2 models lentS lentR h in (c .irreducible1, c .irreducible2),
-        λ i. returns p n t1 t2 models lentS lentR lengthS lengthR divides (i .0) (i .1),
+        λ i. returns p n t1 t2 models lentS lentR divides lengthS lengthR (i .0) (i .1),
       );
+      six = λ divides lentS lentR lengthS lengthR. six p n t1 t2 models lentS lentR divides lengthS lengthR;
+      seven = λ divides lentS lentR lengthS lengthR. seven p n t1 t2 models lentS lentR divides lengthS lengthR;
       found = λ lentS lentR h.
           let c : Returned p n t1 t2 = returned p n t1 t2 models lentS lentR h in
           subst₂ (λ s r. ChosenPair p n t1 t2 s r × (checkNumber p n t1 t2 s r ≡ 0)) (sym (output-s p n t1 t2 lentS lentR h)) (sym (output-r p n t1 t2 lentS lentR h))

@@ -1,9 +1,11 @@
 -- Demand 3, whole. Read this file first; Finder.antt beside it has the finder's values, Theorem.antt of the crate pair the checker's half,
--- and Residue.antt, Map.antt and Divisor.antt of the crate quotient the residues, the maps and the divisors.
+-- Residue.antt, Map.antt and Divisor.antt of the crate quotient the residues, the maps and the divisors, and Prime.antt of the crate
+-- algebra the primes.
 -- For every prime p up to 65,535, every n from 1 to 16 and all monic T1 and T2 of degree n:
 -- (a) an accepted pair's two maps preserve sums, products and one, and each undoes the other on every residue;
 -- (b) if n divides p − 1, the finder, lent two lists of n words, returns a pair exactly when neither modulus has a monic divisor of
---     degree 1 to n − 1; that pair is the one of Algorithm 2.1 with document 01's choices, and the checker accepts it.
+--     degree 1 to n − 1, refuses with 6 exactly when T1 has one, and with 7 exactly when T1 has none and T2 has one; the pair that it
+--     returns is the one of Algorithm 2.1 with document 01's choices, and the checker accepts it.
 --   Models p n t1 t2 (of pair)  p is a prime up to 65,535, n is 1 to 16, and t1 and t2 are n words below p each
 --   Smallest P p k              k is the smallest integer from 1 to p − 1 that satisfies P
 --   Eigenvector p t z a         a is not zero, a^p = z·a modulo T, and its first coefficient that is not zero is 1
@@ -51,6 +53,12 @@ pub record Demand3 (p n : ℕ) (t1 t2 : List ℕ) : Type 0 where
   pub returns :
       (p - 1) % n ≡ 0 → (lentS lentR : List ℕ) → length lentS ≡ n → length lentR ≡ n
       → (findNumber p n t1 t2 lentS lentR ≡ 0) ↔ ((HasDivisor p t1 → ⊥) × (HasDivisor p t2 → ⊥))
+  pub six :
+      (p - 1) % n ≡ 0 → (lentS lentR : List ℕ) → length lentS ≡ n → length lentR ≡ n
+      → (findNumber p n t1 t2 lentS lentR ≡ 6) ↔ HasDivisor p t1
+  pub seven :
+      (p - 1) % n ≡ 0 → (lentS lentR : List ℕ) → length lentS ≡ n → length lentR ≡ n
+      → (findNumber p n t1 t2 lentS lentR ≡ 7) ↔ ((HasDivisor p t1 → ⊥) × HasDivisor p t2)
   pub found :
       (lentS lentR : List ℕ) → findNumber p n t1 t2 lentS lentR ≡ 0
       → ChosenPair p n t1 t2 (findOutputS p n t1 t2 lentS lentR) (findOutputR p n t1 t2 lentS lentR)
