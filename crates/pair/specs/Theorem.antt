@@ -1,7 +1,10 @@
--- The checker's half of demand 3: what the answer 0 of `check` means. Read this file first; every name in it is explained in Pair.antt
--- beside it, or in Residue.antt and Map.antt of the crate quotient.
+-- The checker's half of demand 3: what the answer 0 of `check` means. Read this file first; every name in it is explained here, in Pair.antt
+-- beside it, in Residue.antt and Map.antt of the crate quotient, or in Prime.antt of the crate algebra.
 -- For every p, n and all lists: the answer is 0 exactly when p is a prime up to 65,535, n is 1 to 16, the four lists are n words below p
 -- and the four congruences hold; and then the two maps preserve sums, products and one on all residues, and each undoes the other.
+--   Models p n t1 t2             p is a prime up to 65,535, n is 1 to 16, t1 and t2 are n words below p each
+--   Given p n t1 t2 s r          also s and r are n words below p each: what 1 to 4 do not refuse
+--   Isomorphisms p n t1 t2 s r   both maps preserve sums, products and one, and each undoes the other
 use mathlib.Core.Path.{_≡_}
 use mathlib.Core.List.{List}
 use Prim.Native.Nat.{ℕ, _≤_}
@@ -10,7 +13,6 @@ use Rattle.quotient.specs.Map.{Preserves, Undoes}
 use Rattle.quotient.specs.Residue.{Words}
 use Rattle.pair.specs.Pair.{forward, backward, Congruences, checkNumber}
 
--- two models of one size
 pub record Models (p n : ℕ) (t1 t2 : List ℕ) : Type 0 where
   pub prime : Prime p
   pub small : p ≤ 65535
@@ -18,7 +20,6 @@ pub record Models (p n : ℕ) (t1 t2 : List ℕ) : Type 0 where
   pub modulus1 : Words p n t1
   pub modulus2 : Words p n t2
 
--- and a pair of lists: what 1 to 4 do not refuse
 pub record Given (p n : ℕ) (t1 t2 s r : List ℕ) : Type 0 where
   pub models : Models p n t1 t2
   pub words-s : Words p n s
