@@ -70,6 +70,7 @@ fn from_kernel(p: u64, n: usize, z: u64, t: &[u64; 16], v: &[u64; 16]) -> Alpha
     }
 }
 
+// Whether T has no monic divisor of degree 1 to n − 1, and then α and α^n, from the kernel. The system is written into the array m.
 pub fn eigenvector(p: u64, n: usize, z: u64, t: &[u64; 16], m: &mut [u64; 256]) -> Alpha
     requires { ⌜ Admissible p n ⌝ }
     requires { ⌜ (z < p) × OrderModulo p n z ⌝ }

@@ -3,7 +3,7 @@
 --   Holds p n xs         the array xs holds n words below p, and zeros after them
 --   entry m i j          the word in row i and column j of the matrix
 --   Square p n m         the matrix has 256 words, and those of its first n rows and columns are below p
---   rowProduct m i j v   the sum of the words of row i, from column j on, each times the word of v that belongs to it
+--   rowProduct m i j v   m[i][j]·v[0] + m[i][j+1]·v[1] + …, over all words of v
 use mathlib.Core.Path.{_≡_}
 use mathlib.Core.List.{List, [], _∷_, _++_}
 use Prim.Native.Nat.{ℕ, suc, _+_, _-_, _*_, _<_}

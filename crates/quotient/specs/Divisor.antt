@@ -4,7 +4,7 @@
 --   polynomialProduct p f g  f·g
 --   monic t                  the monic polynomial with the lower words t
 --   Divides p d t            the monic polynomial of d divides that of t
---   HasDivisor p t           it has a monic divisor of degree 1 to n − 1
+--   HasDivisor p t           T, of degree n, has a monic divisor of degree 1 to n − 1
 --   Remainder p t f r        r is the remainder of f on division by the monic polynomial of t
 use mathlib.Core.Path.{_≡_}
 use mathlib.Core.List.{List, [], _∷_, _++_}
