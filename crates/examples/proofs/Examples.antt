@@ -9,7 +9,7 @@ use lib.ListN.{length}
 use Rattle.algebra.specs.Lists.{all, equal, first, range}
 use Rattle.card.specs.Bits.{bits, numberFrom, bytes, packed}
 use Rattle.card.specs.Card.{width, allBits, card, badKind, cardLength, writeNumber, writeOutput}
-use Rattle.finder.specs.Finder.{zeta, ratio, firstNonZero, findNumber}
+use Rattle.finder.specs.Finder.{zeta, rootOfRatio, firstNonZero, findNumber}
 use Rattle.modular.specs.Prime.{isPrime}
 use Rattle.modular.specs.Refusal.{badPrime, badDegree, badLength, badWord, allBelow}
 use Rattle.pair.specs.Pair.{accepts, checkNumber}
@@ -25,7 +25,7 @@ use Rattle.examples.proofs.Listed.{found, outputs}
 use Rattle.examples.proofs.Refused.{words-counted, factor-divides, indivisible-refused, divisor-refused, second-refused}
 
 pub examples : Examples
-unfolding all equal first range bits numberFrom bytes packed width allBits card badKind cardLength writeNumber writeOutput zeta ratio firstNonZero findNumber isPrime badPrime badDegree badLength
+unfolding all equal first range bits numberFrom bytes packed width allBits card badKind cardLength writeNumber writeOutput zeta rootOfRatio firstNonZero findNumber isPrime badPrime badDegree badLength
     badWord allBelow accepts checkNumber monic polynomialProduct sum scale constant shift top timesX product power residueOfX substitute modulusAt
     padded whole viewAs view pairedSession converted tableNumber convertNumber imageForward imageBack forwardOutput backOutput
 examples =

@@ -9,7 +9,7 @@ use mathlib.Core.Path.{_≡_, sym, ap, _∙_, subst}
 use mathlib.Core.List.{List}
 use Prim.Native.Nat.{ℕ, suc, _-_, _%_, _≤_}
 use lib.ListN.{length}
-use Rattle.finder.specs.Finder.{zeta, ratio, express, findS, findR, findOutputS, findOutputR}
+use Rattle.finder.specs.Finder.{zeta, rootOfRatio, express, findS, findR, findOutputS, findOutputR}
 use Rattle.finder.proofs.ChosenPair.{zeta-found}
 use Rattle.finder.proofs.Construction.{root-independent}
 use Rattle.finder.proofs.Express.{express-is, express-unique}
@@ -30,7 +30,7 @@ record Listed (p n : ℕ) (t1 t2 : List ℕ) (z : ℕ) (v1 v2 : List ℕ) (a1 a2
   zeta-is : zeta p n ≡ z
   root1 : Root p n t1 z v1 a1
   root2 : Root p n t2 z v2 a2
-  ratio-is : ratio p n a1 a2 ≡ c
+  c-is : rootOfRatio p n a1 a2 ≡ c
   image-is : substitute p t2 s v1 ≡ scale p c v2
 
 module _ {p n : ℕ} {t1 t2 : List ℕ} {z : ℕ} {v1 v2 : List ℕ} {a1 a2 c : ℕ} {s r : List ℕ} (h : Listed p (suc n) t1 t2 z v1 v2 a1 a2 c s r) where
@@ -56,7 +56,7 @@ module _ {p n : ℕ} {t1 t2 : List ℕ} {z : ℕ} {v1 v2 : List ℕ} {a1 a2 c : 
   unfolding findS
   s-is =
       let big : 2 ≤ p = given .models .prime .0 in
-      rw (h .zeta-is, alpha1-found .alpha-is, alpha2-found .alpha-is, alpha1-found .constant-is, alpha2-found .constant-is, h .ratio-is, ← h .image-is)
+      rw (h .zeta-is, alpha1-found .alpha-is, alpha2-found .alpha-is, alpha1-found .constant-is, alpha2-found .constant-is, h .c-is, ← h .image-is)
       (sym (substitute-substitute big (given .models .modulus1) (given .models .modulus2) (given .words-s) root-of-t1 (alpha1-found .words) (express p t1 v1))
       ∙ ap (substitute p t2 s) (express-is big (given .models .modulus1) (alpha1-found .words) (alpha1-found .independent) .1)
       ∙ x-substitute big (given .models .modulus1) (given .models .modulus2) (given .words-s) root-of-t1)
@@ -77,7 +77,7 @@ module _ {p n : ℕ} {t1 t2 : List ℕ} {z : ℕ} {v1 v2 : List ℕ} {a1 a2 c : 
         alpha2-is = alpha2-found .alpha-is;
         a1-is = alpha1-found .constant-is;
         a2-is = alpha2-found .constant-is;
-        c-is = h .ratio-is;
+        c-is = h .c-is;
         s-is = s-is;
         r-is = r-is;
         number-is = λ lentS lentR lengthS lengthR.
@@ -86,9 +86,9 @@ module _ {p n : ℕ} {t1 t2 : List ℕ} {z : ℕ} {v1 v2 : List ℕ} {a1 a2 c : 
 
 pub found : {p n : ℕ} {t1 t2 : List ℕ} {z : ℕ} {v1 v2 : List ℕ} {a1 a2 c : ℕ} {s r : List ℕ}
     → checkNumber p (suc n) t1 t2 s r ≡ 0 → (p - 1) % suc n ≡ 0 → zeta p (suc n) ≡ z → Root p (suc n) t1 z v1 a1 → Root p (suc n) t2 z v2 a2
-    → ratio p (suc n) a1 a2 ≡ c → substitute p t2 s v1 ≡ scale p c v2 → Found p (suc n) t1 t2 z v1 v2 a1 a2 c s r
-found accepted divides zeta-is root1 root2 ratio-is image-is =
-    values-found record { accepted = accepted; divides = divides; zeta-is = zeta-is; root1 = root1; root2 = root2; ratio-is = ratio-is; image-is = image-is }
+    → rootOfRatio p (suc n) a1 a2 ≡ c → substitute p t2 s v1 ≡ scale p c v2 → Found p (suc n) t1 t2 z v1 v2 a1 a2 c s r
+found accepted divides zeta-is root1 root2 c-is image-is =
+    values-found record { accepted = accepted; divides = divides; zeta-is = zeta-is; root1 = root1; root2 = root2; c-is = c-is; image-is = image-is }
 
 pub outputs : {p n : ℕ} {t1 t2 : List ℕ} {z : ℕ} {v1 v2 : List ℕ} {a1 a2 c : ℕ} {s r : List ℕ} → Found p n t1 t2 z v1 v2 a1 a2 c s r
     → (lentS lentR : List ℕ) → length lentS ≡ n → length lentR ≡ n → (findOutputS p n t1 t2 lentS lentR ≡ s) × (findOutputR p n t1 t2 lentS lentR ≡ r)

@@ -5,7 +5,7 @@ use mathlib.Core.List.{List, [], _∷_}
 use Prim.Native.Nat.{ℕ}
 use lib.ListN.{length}
 use Rattle.card.specs.Card.{writeOutput}
-use Rattle.finder.specs.Finder.{zeta, alpha, powerConstant, ratio, findS, findR, findNumber, findOutputS, findOutputR}
+use Rattle.finder.specs.Finder.{zeta, alpha, powerConstant, rootOfRatio, findS, findR, findNumber, findOutputS, findOutputR}
 use Rattle.pair.specs.Pair.{checkNumber}
 use Rattle.quotient.specs.Divisor.{monic, polynomialProduct}
 use Rattle.quotient.specs.Residue.{Words}
@@ -18,7 +18,7 @@ pub record Found (p n : ℕ) (t1 t2 : List ℕ) (z : ℕ) (alpha1 alpha2 : List 
   pub alpha2-is : alpha p t2 z ≡ alpha2
   pub a1-is : powerConstant p t1 alpha1 ≡ a1
   pub a2-is : powerConstant p t2 alpha2 ≡ a2
-  pub c-is : ratio p n a1 a2 ≡ c
+  pub c-is : rootOfRatio p n a1 a2 ≡ c
   pub s-is : findS p n t1 t2 ≡ s
   pub r-is : findR p n t1 t2 ≡ r
   pub number-is : (lentS lentR : List ℕ) → length lentS ≡ n → length lentR ≡ n → findNumber p n t1 t2 lentS lentR ≡ 0

@@ -11,7 +11,7 @@ use Rattle.pair.proofs.TwoCongruences.{two-congruences}
 use Rattle.quotient.specs.Divisor.{HasDivisor}
 use Rattle.quotient.specs.Residue.{Words, scale, constant, power, substitute, modulusAt}
 use Rattle.quotient.proofs.Words.{scale-words, substitute-words}
-use Rattle.finder.specs.Finder.{zeta, alpha, powerConstant, ratio, express, findS, findR}
+use Rattle.finder.specs.Finder.{zeta, alpha, powerConstant, rootOfRatio, express, findS, findR}
 use Rattle.finder.specs.Theorem.{Smallest, Eigenvector, ChosenPair}
 use Rattle.finder.specs.Root.{OrderModulo}
 use Rattle.finder.specs.System.{Independent}
@@ -21,7 +21,7 @@ use Rattle.finder.proofs.Express.{express-is}
 use Rattle.finder.proofs.Irreducible.{constant-root, kernel-independent, eigenvector-unique}
 use Rattle.finder.proofs.KernelVector.{KernelVector, kernel-of-eigenvector}
 use Rattle.finder.proofs.NoDivisor.{constant-positive, no-divisor}
-use Rattle.finder.proofs.Ratio.{ratio-is}
+use Rattle.finder.proofs.RootOfRatio.{root-of-ratio-is}
 use Rattle.finder.proofs.ResidueConstants.{constant-injective, constant-is-word}
 use Rattle.finder.proofs.Smallest.{smallest-unique}
 use Rattle.finder.proofs.Zeta.{zeta-is}
@@ -78,11 +78,11 @@ module _ {p n : ℕ} {t1 t2 : List ℕ} (prime : Prime p) (w1 : Words p (suc n) 
       (same-s, chosen-independent h r r' (h .r-is .0) (h' .r-is .0) (h .r-is .1 ∙ sym (ap (λ u. substitute p t2 u r') same-s ∙ h' .r-is .1)))
 
   -- c exists: a1 and a2 have the same power ζ with the exponent (p − 1)/n
-  pub ratio-found : (z : ℕ) → OrderModulo p (suc n) z → z < p → (p - 1) % suc n ≡ 0 → {v1 v2 : List ℕ} → KernelVector p (suc n) t1 z v1 → KernelVector p (suc n) t2 z v2
+  pub root-of-ratio-found : (z : ℕ) → OrderModulo p (suc n) z → z < p → (p - 1) % suc n ≡ 0 → {v1 v2 : List ℕ} → KernelVector p (suc n) t1 z v1 → KernelVector p (suc n) t2 z v2
       → (a1 a2 : ℕ) → power p t1 v1 (suc n) ≡ constant (suc n) a1 → power p t2 v2 (suc n) ≡ constant (suc n) a2
-      → Smallest (λ k. k ^ suc n * a2 % p ≡ a1) p (ratio p (suc n) a1 a2)
-  ratio-found z order below divides {v1} {v2} k1 k2 a1 a2 e1 e2 =
-      ratio-is p (suc n) ((p - 1) / suc n) prime (omega arith) product a1 a2
+      → Smallest (λ k. k ^ suc n * a2 % p ≡ a1) p (rootOfRatio p (suc n) a1 a2)
+  root-of-ratio-found z order below divides {v1} {v2} k1 k2 a1 a2 e1 e2 =
+      root-of-ratio-is p (suc n) ((p - 1) / suc n) prime (omega arith) product a1 a2
       (constant-positive prime w1 z order k1 a1 e1) (constant-is-word prime w1 (v1, k1 .words) (suc n) a1 e1)
       (constant-positive prime w2 z order k2 a2 e2) (constant-is-word prime w2 (v2, k2 .words) (suc n) a2 e2)
       (constant-root prime w1 (no-divisor prime w1 z order k1 a1 e1) z order k1 ((p - 1) / suc n) a1 product below e1
@@ -107,7 +107,7 @@ module _ {p n : ℕ} (prime : Prime p) (high : suc n ≤ 16) (divides : (p - 1) 
       let k2 = alpha-kernel prime w2 ζ order irreducible2 in
       let e1 = alpha-constant prime w1 ζ order irreducible1 in
       let e2 = alpha-constant prime w2 ζ order irreducible2 in
-      let least = ratio-found prime w1 w2 ζ order (zeta-found .1) divides k1 k2 _ _ e1 e2 in
+      let least = root-of-ratio-found prime w1 w2 ζ order (zeta-found .1) divides k1 k2 _ _ e1 e2 in
       let expressed = express-is (prime .0) w1 (k1 .words) (alpha-independent prime w1 ζ order irreducible1) in
       record {
         z = ζ;
@@ -115,7 +115,7 @@ module _ {p n : ℕ} (prime : Prime p) (high : suc n ≤ 16) (divides : (p - 1) 
         alpha2 = alpha p t2 ζ;
         a1 = powerConstant p t1 (alpha p t1 ζ);
         a2 = powerConstant p t2 (alpha p t2 ζ);
-        c = ratio p (suc n) (powerConstant p t1 (alpha p t1 ζ)) (powerConstant p t2 (alpha p t2 ζ));
+        c = rootOfRatio p (suc n) (powerConstant p t1 (alpha p t1 ζ)) (powerConstant p t2 (alpha p t2 ζ));
         p1 = express p t1 (alpha p t1 ζ);
         z-is = zeta-found;
         alpha1-is = alpha-is prime w1 ζ order irreducible1;

@@ -15,12 +15,12 @@ use Rattle.quotient.proofs.Words.{scale-words}
 use Rattle.quotient.specs.Array.{padded, Holds}
 use Rattle.quotient.proofs.Padded.{front-is, holds-is}
 use Rattle.finder.specs.Construct.{Choices, FoundPair}
-use Rattle.finder.specs.Finder.{zeta, alpha, powerConstant, ratio, express, findS, findR, pairNumber}
+use Rattle.finder.specs.Finder.{zeta, alpha, powerConstant, rootOfRatio, express, findS, findR, pairNumber}
 use Rattle.finder.specs.Kernel.{Answer}
 use Rattle.finder.specs.Root.{Admissible, OrderModulo, Solvable}
 use Rattle.finder.specs.System.{Independent}
 use Rattle.finder.proofs.Express.{express-is}
-use Rattle.finder.proofs.Values.{alpha-words, alpha-powers, alpha-power, ratio-smallest, find-s-independent}
+use Rattle.finder.proofs.Values.{alpha-words, alpha-powers, alpha-power, root-of-ratio-smallest, find-s-independent}
 use Rattle.finder.proofs.Zeta as Zeta
 use Rattle.finder.proofs.KernelAnswer.{not-not}
 
@@ -83,7 +83,7 @@ module _ (p n : ℕ) (t1 t2 : List ℕ) (h : Admissible p n) (h1 : Holds p n t1)
   unfolding findS
   forward-is q g s eq eg es =
       es ∙ ap₂ (λ u v. padded (substitute p T2 u v))
-      (front-is eg (scale-words c (alpha2-holds .words)) ∙ ap₂ (scale p) (e .ratio-is) (front-is (e .alpha2-is) words2)) (front-is eq express-words ∙ ap (express p T1) front1)
+      (front-is eg (scale-words c (alpha2-holds .words)) ∙ ap₂ (scale p) (e .c-is) (front-is (e .alpha2-is) words2)) (front-is eq express-words ∙ ap (express p T1) front1)
 
 -- the answer
 
@@ -114,8 +114,8 @@ found-answer p n t z f a b h some = subst (λ k. Answer p n t z k a b) (not-fals
 module _ (p n z : ℕ) (t1 t2 : List ℕ) (h : Admissible p n) (zeta-is : z ≡ zeta p n) (x y : List ℕ) (a b : ℕ)
     (answer1 : Answer p n t1 z true x a) (answer2 : Answer p n t2 z true y b) where
   -- c exists
-  ratio-exists : Words p n t1 → Words p n t2 → Solvable p n a b
-  ratio-exists w1 w2 =
+  root-of-ratio-exists : Words p n t1 → Words p n t2 → Solvable p n a b
+  root-of-ratio-exists w1 w2 =
       let order : OrderModulo p n z = zeta-has-order p n h z zeta-is in
       let (_, pos1, below1) = alpha-power p (h .prime) n t1 (h .low) w1 z order (divisor-of answer1) in
       let (_, pos2, below2) = alpha-power p (h .prime) n t2 (h .low) w2 z order (divisor-of answer2) in
@@ -125,20 +125,20 @@ module _ (p n z : ℕ) (t1 t2 : List ℕ) (h : Admissible p n) (zeta-is : z ≡ 
         positive2 = pos2;
         below1 = below1;
         below2 = below2;
-        smallest = ratio-smallest p (h .prime) n t1 t2 (h .low) (h .divides) w1 w2 z (subst (λ k. k < p) (sym zeta-is) (zeta-small p n h)) order (divisor-of answer1) (divisor-of answer2);
+        smallest = root-of-ratio-smallest p (h .prime) n t1 t2 (h .low) (h .divides) w1 w2 z (subst (λ k. k < p) (sym zeta-is) (zeta-small p n h)) order (divisor-of answer1) (divisor-of answer2);
       })
 
-  pub choices : (c : ℕ) → c ≡ ratio p n a b → c < p → Choices p n t1 t2 c x y
+  pub choices : (c : ℕ) → c ≡ rootOfRatio p n a b → c < p → Choices p n t1 t2 c x y
   choices c ec small =
       record {
         irreducible1 = divisor-of answer1;
         irreducible2 = divisor-of answer2;
         alpha1-is = answer1 .alpha-is refl ∙ ap (λ k. padded (alpha p t1 k)) zeta-is;
         alpha2-is = answer2 .alpha-is refl ∙ ap (λ k. padded (alpha p t2 k)) zeta-is;
-        ratio-is =
-            ec ∙ ap₂ (ratio p n) (answer1 .constant-is refl ∙ ap (λ k. powerConstant p t1 (alpha p t1 k)) zeta-is)
+        c-is =
+            ec ∙ ap₂ (rootOfRatio p n) (answer1 .constant-is refl ∙ ap (λ k. powerConstant p t1 (alpha p t1 k)) zeta-is)
             (answer2 .constant-is refl ∙ ap (λ k. powerConstant p t2 (alpha p t2 k)) zeta-is);
-        ratio-small = small;
+        c-small = small;
       }
 
 -- S and R on arrays
@@ -163,9 +163,9 @@ module _ (p n z : ℕ) (t1 t2 : List ℕ) (h : Admissible p n) (h1 : Holds p n t
         backward-is = λ _. er ∙ ap (λ u. padded (express p (take n t2) u)) (front-is es (independent .0));
       }
 
-pub ratio-solvable : (p n z : ℕ) (t1 t2 x y : List ℕ) (a b : ℕ) → Admissible p n → z ≡ zeta p n → Holds p n t1 → Holds p n t2
+pub root-of-ratio-solvable : (p n z : ℕ) (t1 t2 x y : List ℕ) (a b : ℕ) → Admissible p n → z ≡ zeta p n → Holds p n t1 → Holds p n t2
     → Answer p n (take n t1) z true x a → Answer p n (take n t2) z true y b → Solvable p n a b
-ratio-solvable p n z t1 t2 x y a b h e h1 h2 answer1 answer2 = ratio-exists p n z (take n t1) (take n t2) h e x y a b answer1 answer2 (h1 .words) (h2 .words)
+root-of-ratio-solvable p n z t1 t2 x y a b h e h1 h2 answer1 answer2 = root-of-ratio-exists p n z (take n t1) (take n t2) h e x y a b answer1 answer2 (h1 .words) (h2 .words)
 
 -- 5 first
 

@@ -60,9 +60,9 @@ module _ {p n : ℕ} {t : List ℕ} (prime : Prime p) (wt : Words p (suc n) t) w
   -- (c·v)^n = c^n·a
   scaled-power : (c a b : ℕ) (v : Residue p (suc n)) → Ring.power K v (suc n) ≡ numeral K a → c ^ suc n * a % p ≡ b
       → Ring.power K (K .mul (numeral K c) v) (suc n) ≡ numeral K b
-  scaled-power c a b v e ratio =
+  scaled-power c a b v e solves =
       power-product K (numeral K c) v (suc n) ∙ ap₂ (K .mul) (sym (numeral-power K c (suc n))) e ∙ sym (numeral-mul K (c ^ suc n) a)
-      ∙ sym (numeral-mod K p (c ^ suc n * a) (characteristic (prime .0) wt)) ∙ ap (numeral K) ratio
+      ∙ sym (numeral-mod K p (c ^ suc n * a) (characteristic (prime .0) wt)) ∙ ap (numeral K) solves
 
 -- a root of a T1 without proper divisors has independent powers
 pub root-independent : {p n : ℕ} {t1 t2 s : List ℕ} (prime : Prime p) (w1 : Words p (suc n) t1) (w2 : Words p (suc n) t2) → (HasDivisor p t1 → ⊥)
@@ -77,7 +77,7 @@ root-independent {t1 = t1} {s = s} prime w1 w2 irreducible ws root f g wf wg e =
 
 module _ {p n : ℕ} {t1 t2 : List ℕ} (prime : Prime p) (w1 : Words p (suc n) t1) (w2 : Words p (suc n) t2) (z : ℕ) (order : OrderModulo p (suc n) z)
     {v1 v2 : List ℕ} (k1 : KernelVector p (suc n) t1 z v1) (k2 : KernelVector p (suc n) t2 z v2) (a1 a2 c : ℕ)
-    (e1 : power p t1 v1 (suc n) ≡ constant (suc n) a1) (e2 : power p t2 v2 (suc n) ≡ constant (suc n) a2) (ratio : c ^ suc n * a2 % p ≡ a1)
+    (e1 : power p t1 v1 (suc n) ≡ constant (suc n) a1) (e2 : power p t2 v2 (suc n) ≡ constant (suc n) a2) (solves : c ^ suc n * a2 % p ≡ a1)
     {f : List ℕ} (wf : Words p (suc n) f) (expresses : substitute p t1 v1 f ≡ residueOfX p t1) where
   abbrev s : List ℕ
   s = substitute p t2 (scale p c v2) f
@@ -107,7 +107,7 @@ module _ {p n : ℕ} {t1 t2 : List ℕ} (prime : Prime p) (w1 : Words p (suc n) 
       transfer-root (prime .0) w1 w2 (constant-words (suc n) complement-below) (k1 .words) (scale-words c (k2 .words))
       (binomial-root prime w1 (v1, k1 .words) a1 below (power-numeral prime w1 (v1, k1 .words) (suc n) a1 e1))
       (ap (λ u. modulusAt p t2 u (constant (suc n) (p - a1))) (sym γ-is)
-      ∙ binomial-root prime w2 γ a1 below (scaled-power prime w2 c a2 a1 (v2, k2 .words) (power-numeral prime w2 (v2, k2 .words) (suc n) a2 e2) ratio))
+      ∙ binomial-root prime w2 γ a1 below (scaled-power prime w2 c a2 a1 (v2, k2 .words) (power-numeral prime w2 (v2, k2 .words) (suc n) a2 e2) solves))
       (kernel-independent prime w1 irreducible z order k1) wf expresses
 
   pub powers-of-s-independent : Independent p (suc n) t2 s

@@ -2,7 +2,7 @@
 pub mod Constants
 pub mod Eigenvector
 pub mod Independence
-pub mod Ratio
+pub mod RootOfRatio
 pub mod Smallest
 pub mod Zeta
 pub mod Express

@@ -13,10 +13,10 @@ use mir.Syntax.{w64}
 use mir.Val.{Fits}
 use Rattle.algebra.proofs.Modulo.{mod-mul-mod}
 use Rattle.modular.proofs.Remainder.{product-fits}
-use Rattle.finder.specs.Finder.{ratio}
+use Rattle.finder.specs.Finder.{rootOfRatio}
 use Rattle.finder.specs.Root.{Admissible, OrderModulo, Solvable}
-use Rattle.finder.proofs.Ratio.{ratio-positive}
-use Rattle.finder.proofs.RootsOfUnity.{Solution, ratio-times, ratio-is-multiple}
+use Rattle.finder.proofs.RootOfRatio.{root-of-ratio-positive}
+use Rattle.finder.proofs.RootsOfUnity.{Solution, root-of-ratio-times, root-of-ratio-is-multiple}
 use Rattle.finder.proofs.Scan.{Searched, searched-turn, Minimal, minimal-start, minimal-next}
 use Rattle.finder.proofs.Smallest.{smallest-unique}
 
@@ -57,7 +57,7 @@ module _ (p n a1 a2 c : ℕ) (r : Bool) (answer : r ≡ eqb (c ^ n * a2 % p) a1)
   pub scan-turn : Solvable p n a1 a2 → Searched (Solution p n a1 a2) 1 p c → not r ≡ true → Searched (Solution p n a1 a2) 1 p (c + 1)
   scan-turn h s e =
       let (low, high, solution, _) = h .smallest in
-      searched-turn (Solution p n a1 a2) 1 p c (ratio p n a1 a2) low high solution s (eqb-false (c ^ n * a2 % p) a1 (sym answer ∙ not-true r e))
+      searched-turn (Solution p n a1 a2) 1 p c (rootOfRatio p n a1 a2) low high solution s (eqb-false (c ^ n * a2 % p) a1 (sym answer ∙ not-true r e))
 
   pub scan-end : not r ≡ false → Solution p n a1 a2 c
   scan-end e = eqb-true (c ^ n * a2 % p) a1 (sym answer ∙ not-false r e)
@@ -101,7 +101,7 @@ module _ (p n z a1 a2 : ℕ) where
   module _ (y least x k : ℕ) (l : Least p n z a1 a2 y least x k) (h : Admissible p n) (s : Solvable p n a1 a2) (small-z : z < p) (order : OrderModulo p n z) where
     module _ (v : ℕ) (more : k < n) (step : v ≡ x * z % p) (small : v < p) where
       v-solves : Solution p n a1 a2 v
-      v-solves = ap (λ i. i ^ n * a2 % p) step ∙ ratio-times h a1 a2 (s .positive1) (s .below1) (s .below2) z x small-z (order .0) (l .small) (l .solves)
+      v-solves = ap (λ i. i ^ n * a2 % p) step ∙ root-of-ratio-times h a1 a2 (s .positive1) (s .below1) (s .below2) z x small-z (order .0) (l .small) (l .solves)
 
       -- the next multiple is v, and `next` is the smallest so far
       least-next : (next : ℕ) → next < p → Solution p n a1 a2 next → next ≤ least → next ≤ v → Least p n z a1 a2 y next v (k + 1)
@@ -128,14 +128,14 @@ module _ (p n z a1 a2 : ℕ) where
       least-same next e g = rw e (least-next least (l .least-small) (l .minimal .has) (omega arith) g)
 
     -- every solution is y·z^j for some j < n
-    pub least-end : n ≤ k → least ≡ ratio p n a1 a2
-    least-end all = smallest-unique (Solution p n a1 a2) p least (ratio p n a1 a2) (positive, l .least-small, l .minimal .has, none) (s .smallest)
+    pub least-end : n ≤ k → least ≡ rootOfRatio p n a1 a2
+    least-end all = smallest-unique (Solution p n a1 a2) p least (rootOfRatio p n a1 a2) (positive, l .least-small, l .minimal .has, none) (s .smallest)
       where
         positive : 1 ≤ least
-        positive = ratio-positive p n a1 a2 (h .low) (s .positive1) least (l .minimal .has)
+        positive = root-of-ratio-positive p n a1 a2 (h .low) (s .positive1) least (l .minimal .has)
 
         none : (j : ℕ) → 1 ≤ j → j < least → Solution p n a1 a2 j → ⊥
         none j low less f =
-            let (i, to, e) = ratio-is-multiple h a1 a2 (s .positive1) (s .below1) (s .below2) z y j small-z order (l .base-small) (l .base-solves) (omega (arith, l .least-small)) f in
+            let (i, to, e) = root-of-ratio-is-multiple h a1 a2 (s .positive1) (s .below1) (s .below2) z y j small-z order (l .base-small) (l .base-solves) (omega (arith, l .least-small)) f in
             let g : least ≤ y * z ^ i % p = l .minimal .below i (omega arith) (omega arith) (subst (Solution p n a1 a2) e f) in
             omega arith

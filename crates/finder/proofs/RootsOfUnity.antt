@@ -124,17 +124,17 @@ module _ {p n : ℕ} (h : Admissible p n) where
     solution-word u e = below-equal p _ _ (solution-value u ∙ e)
 
     -- (y·z)^n = y^n
-    pub ratio-times : (z y : ℕ) → z < p → z ^ n % p ≡ 1 → y < p → Solution p n a b y → Solution p n a b (y * z % p)
-    ratio-times z y lz ez ly ey =
+    pub root-of-ratio-times : (z y : ℕ) → z < p → z ^ n % p ≡ 1 → y < p → Solution p n a b y → Solution p n a b (y * z % p)
+    root-of-ratio-times z y lz ez ly ey =
         let Z = wordRing p big in
         let v : Below p = Z .mul (y, ly) (z, lz) in
         let unit : power Z (z, lz) n ≡ Z .one = below-equal p _ _ (power-value p big (z, lz) n ∙ ez ∙ sym (one-value p big)) in
         let same : power Z v n ≡ power Z (y, ly) n = power-product Z (y, ly) (z, lz) n ∙ ap (Z .mul (power Z (y, ly) n)) unit ∙ mul-one Z (power Z (y, ly) n) in
         ap (λ x. x ^ n * b % p) (sym (mul-value p big (y, ly) (z, lz))) ∙ sym (solution-value v) ∙ ap (λ x. Z .mul x (b, lb) .0) same ∙ solution-value (y, ly) ∙ ey
 
-    pub ratio-is-multiple : (z y u : ℕ) → z < p → OrderModulo p n z → y < p → Solution p n a b y → u < p → Solution p n a b u → (j : ℕ) × (j < n) × (u ≡ y * z ^ j % p)
+    pub root-of-ratio-is-multiple : (z y u : ℕ) → z < p → OrderModulo p n z → y < p → Solution p n a b y → u < p → Solution p n a b u → (j : ℕ) × (j < n) × (u ≡ y * z ^ j % p)
     unfolding wordField
-    ratio-is-multiple z y u lz o ly ey lu eu =
+    root-of-ratio-is-multiple z y u lz o ly ey lu eu =
         let (j, l, f) = solution-is-multiple (wordField p (h .prime)) (z, lz) n (h .low) (has-order (z, lz) o) (a, la) (b, lb) (y, ly) (u, lu)
         (λ e. let s : a ≡ 0 = ap (λ x. x .0) e ∙ zero-value p big in omega arith) (solution-word (y, ly) ey) (solution-word (u, lu) eu) in
         (j, l, ap (λ x. x .0) f ∙ mul-value p big (y, ly) (power (wordRing p big) (z, lz) j) ∙ ap (λ x. y * x % p) (power-value p big (z, lz) j) ∙ mul-mod-mod y (z ^ j) p)

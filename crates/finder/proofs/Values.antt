@@ -2,7 +2,7 @@
 -- whether T has a proper divisor and gives α; the systems for P1 and R have one solution each.
 --   kernel-decides, trivial-kernel-decides   refusals 6 and 7
 --   alpha-of-kernel                          α from any such vector
---   ratio-smallest                           c exists and is the smallest
+--   root-of-ratio-smallest                   c exists and is the smallest
 --   alpha-powers, find-s-independent         the systems for P1 and R are regular: the powers of α1 and of S are independent
 use mathlib.Core.Path.{_≡_, sym, ap, _∙_}
 use mathlib.Core.Bool.{true, false, not, true≢false}
@@ -16,12 +16,12 @@ use Rattle.quotient.specs.Divisor.{HasDivisor}
 use Rattle.quotient.specs.DivisorTest.{hasDivisor}
 use Rattle.quotient.specs.Residue.{Words, constant, power, scale}
 use Rattle.quotient.proofs.Decision.{test-has-divisor, has-divisor-test, has-divisor?}
-use Rattle.finder.specs.Finder.{alpha, powerConstant, ratio, findS}
+use Rattle.finder.specs.Finder.{alpha, powerConstant, rootOfRatio, findS}
 use Rattle.finder.specs.Theorem.{Smallest}
 use Rattle.finder.specs.Root.{OrderModulo}
 use Rattle.finder.specs.System.{Independent}
 use Rattle.finder.proofs.Alpha.{test-fails, alpha-normalised, alpha-kernel, alpha-independent, alpha-constant, power-constant-is}
-use Rattle.finder.proofs.ChosenPair.{ratio-found, chosen-words, chosen-independent, found-chosen}
+use Rattle.finder.proofs.ChosenPair.{root-of-ratio-found, chosen-words, chosen-independent, found-chosen}
 use Rattle.finder.proofs.Irreducible.{kernel-vector-exists, power-is-constant}
 use Rattle.finder.proofs.KernelVector.{KernelVector}
 use Rattle.finder.proofs.FirstNonZero.{normalised}
@@ -92,14 +92,14 @@ module _ (p : ℕ) (prime : Prime p) where
   alpha-powers (suc n) t low wt z order e = alpha-independent prime wt z order (test-irreducible wt e)
 
   -- c
-  pub ratio-smallest : (n : ℕ) (t1 t2 : List ℕ) → 1 ≤ n → (p - 1) % n ≡ 0 → Words p n t1 → Words p n t2 → (z : ℕ) → z < p → OrderModulo p n z
+  pub root-of-ratio-smallest : (n : ℕ) (t1 t2 : List ℕ) → 1 ≤ n → (p - 1) % n ≡ 0 → Words p n t1 → Words p n t2 → (z : ℕ) → z < p → OrderModulo p n z
       → hasDivisor p t1 ≡ false → hasDivisor p t2 ≡ false
-      → Smallest (λ k. k ^ n * powerConstant p t2 (alpha p t2 z) % p ≡ powerConstant p t1 (alpha p t1 z)) p (ratio p n (powerConstant p t1 (alpha p t1 z)) (powerConstant p t2 (alpha p t2 z)))
-  ratio-smallest zero t1 t2 low divides w1 w2 z below order e1 e2 = absurd (omega arith)
-  ratio-smallest (suc n) t1 t2 low divides w1 w2 z below order e1 e2 =
+      → Smallest (λ k. k ^ n * powerConstant p t2 (alpha p t2 z) % p ≡ powerConstant p t1 (alpha p t1 z)) p (rootOfRatio p n (powerConstant p t1 (alpha p t1 z)) (powerConstant p t2 (alpha p t2 z)))
+  root-of-ratio-smallest zero t1 t2 low divides w1 w2 z below order e1 e2 = absurd (omega arith)
+  root-of-ratio-smallest (suc n) t1 t2 low divides w1 w2 z below order e1 e2 =
       let i1 = test-irreducible w1 e1 in
       let i2 = test-irreducible w2 e2 in
-      ratio-found prime w1 w2 z order below divides (alpha-kernel prime w1 z order i1) (alpha-kernel prime w2 z order i2) _ _
+      root-of-ratio-found prime w1 w2 z order below divides (alpha-kernel prime w1 z order i1) (alpha-kernel prime w2 z order i2) _ _
       (alpha-constant prime w1 z order i1) (alpha-constant prime w2 z order i2)
 
   -- the system R(S) = X is regular

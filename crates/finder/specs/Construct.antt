@@ -7,15 +7,15 @@ use mathlib.Core.List.{List}
 use Prim.Native.Nat.{ℕ, _<_}
 use Rattle.quotient.specs.DivisorTest.{hasDivisor}
 use Rattle.quotient.specs.Array.{padded}
-use Rattle.finder.specs.Finder.{zeta, alpha, powerConstant, ratio, findS, findR, pairNumber}
+use Rattle.finder.specs.Finder.{zeta, alpha, powerConstant, rootOfRatio, findS, findR, pairNumber}
 
 pub record Choices (p n : ℕ) (t1 t2 : List ℕ) (c : ℕ) (x y : List ℕ) : Type 0 where
   pub irreducible1 : hasDivisor p t1 ≡ false
   pub irreducible2 : hasDivisor p t2 ≡ false
   pub alpha1-is : x ≡ padded (alpha p t1 (zeta p n))
   pub alpha2-is : y ≡ padded (alpha p t2 (zeta p n))
-  pub ratio-is : c ≡ ratio p n (powerConstant p t1 (alpha p t1 (zeta p n))) (powerConstant p t2 (alpha p t2 (zeta p n)))
-  pub ratio-small : c < p
+  pub c-is : c ≡ rootOfRatio p n (powerConstant p t1 (alpha p t1 (zeta p n))) (powerConstant p t2 (alpha p t2 (zeta p n)))
+  pub c-small : c < p
 
 pub record FoundPair (p n : ℕ) (t1 t2 : List ℕ) (number : ℕ) (s r : List ℕ) : Type 0 where
   pub number-is : number ≡ pairNumber p n t1 t2

@@ -1,14 +1,14 @@
 -- The finder's values (document 01, "The finder"), each by search over what its sentence ranges over, in the order of the document.
---   zeta p n            the smallest integer from 1 to p − 1 with ζ^n = 1 mod p and no ζ^m = 1 for 1 ≤ m < n
---   firstNonZero u      the first coefficient that is not zero, counted from the constant; 0 where there is none
---   alpha p t z         not zero, α^p = ζ·α modulo T, and its first coefficient that is not zero is 1
---   powerConstant p t a the constant coefficient of a^n modulo T; α^n has no other
---   ratio p n a1 a2     c, the smallest integer from 1 to p − 1 with c^n·a2 = a1 mod p
---   express p t a       the polynomial P of degree below n with P(a) = X modulo T
---   findS p n t1 t2     S = P1(c·α2) mod T2, with P1(α1) = X mod T1
---   findR p n t1 t2     the one polynomial R of degree below n with R(S) = X mod T2
---   pairNumber p n t1 t2   5 where n does not divide p − 1, 6 and 7 where T1 and T2 have a monic divisor of degree 1 to n − 1; 0 otherwise
---   findNumber …        the finder's answer: 1 to 4, then these, or 0 where it returns the pair
+--   zeta p n                the smallest integer from 1 to p − 1 with ζ^n = 1 mod p and no ζ^m = 1 for 1 ≤ m < n
+--   firstNonZero u          the first coefficient that is not zero, counted from the constant; 0 where there is none
+--   alpha p t z             not zero, α^p = ζ·α modulo T, and its first coefficient that is not zero is 1
+--   powerConstant p t a     the constant coefficient of a^n modulo T; α^n has no other
+--   rootOfRatio p n a1 a2   c, the smallest n-th root of a1/a2: the smallest integer from 1 to p − 1 with c^n·a2 = a1 mod p
+--   express p t a           the polynomial P of degree below n with P(a) = X modulo T
+--   findS p n t1 t2         S = P1(c·α2) mod T2, with P1(α1) = X mod T1
+--   findR p n t1 t2         the one polynomial R of degree below n with R(S) = X mod T2
+--   pairNumber p n t1 t2    5 where n does not divide p − 1, 6 and 7 where T1 and T2 have a monic divisor of degree 1 to n − 1; 0 otherwise
+--   findNumber …            the finder's answer: 1 to 4, then these, or 0 where it returns the pair
 use mathlib.Core.Bool.{Bool, true, false, _&&_, not}
 use mathlib.Core.List.{List, [], _∷_}
 use Prim.Native.Nat.{ℕ, _-_, _*_, _%_, _^_}
@@ -37,8 +37,8 @@ alpha p t z =
 unfoldable pub powerConstant : ℕ → List ℕ → List ℕ → ℕ
 powerConstant p t a = getD (power p t a (length t)) 0 0
 
-unfoldable pub ratio : ℕ → ℕ → ℕ → ℕ → ℕ
-ratio p n a1 a2 = first (λ c. eqb (c ^ n * a2 % p) a1) 0 (range 1 (p - 1))
+unfoldable pub rootOfRatio : ℕ → ℕ → ℕ → ℕ → ℕ
+rootOfRatio p n a1 a2 = first (λ c. eqb (c ^ n * a2 % p) a1) 0 (range 1 (p - 1))
 
 unfoldable pub express : ℕ → List ℕ → List ℕ → List ℕ
 express p t a = firstResidue p t (λ f. equal (substitute p t a f) (residueOfX p t))
@@ -47,7 +47,7 @@ unfoldable pub findS : ℕ → ℕ → List ℕ → List ℕ → List ℕ
 findS p n t1 t2 =
     let a1 = alpha p t1 (zeta p n) in
     let a2 = alpha p t2 (zeta p n) in
-    let c = ratio p n (powerConstant p t1 a1) (powerConstant p t2 a2) in
+    let c = rootOfRatio p n (powerConstant p t1 a1) (powerConstant p t2 a2) in
     substitute p t2 (scale p c a2) (express p t1 a1)
 
 unfoldable pub findR : ℕ → ℕ → List ℕ → List ℕ → List ℕ

@@ -2,12 +2,12 @@
 --   Decides r P          the answer r says whether P holds
 --   Admissible p n       p is a prime up to 2^20, and n from 1 to 16 divides p − 1
 --   OrderModulo p n w    w has order n modulo p: w^n = 1 and no w^m for 1 ≤ m < n
---   Solvable p n a1 a2   a1 and a2 are from 1 to p − 1, and c^n·a2 = a1 modulo p has a solution, of which `ratio` finds the smallest
+--   Solvable p n a1 a2   a1 and a2 are from 1 to p − 1, and c^n·a2 = a1 modulo p has a solution, of which `rootOfRatio` finds the smallest
 use mathlib.Core.Path.{_≡_}
 use mathlib.Core.Bool.{Bool, true, false}
 use Prim.Native.Nat.{ℕ, _-_, _*_, _%_, _^_, _≤_, _<_}
 use Rattle.algebra.specs.Prime.{Prime}
-use Rattle.finder.specs.Finder.{ratio}
+use Rattle.finder.specs.Finder.{rootOfRatio}
 use Rattle.finder.specs.Theorem.{Smallest}
 
 pub record Decides (r : Bool) (P : Type 0) : Type 0 where
@@ -29,4 +29,4 @@ pub record Solvable (p n a1 a2 : ℕ) : Type 0 where
   pub positive2 : 0 < a2
   pub below1 : a1 < p
   pub below2 : a2 < p
-  pub smallest : Smallest (λ c. c ^ n * a2 % p ≡ a1) p (ratio p n a1 a2)
+  pub smallest : Smallest (λ c. c ^ n * a2 % p ≡ a1) p (rootOfRatio p n a1 a2)

@@ -11,7 +11,7 @@ ghost use Rattle.finder.specs.Kernel.{Answer};
 ghost use Rattle.finder.specs.Root.{Admissible};
 use crate::frobenius::Alpha;
 use crate::frobenius::eigenvector;
-use crate::root::ratio;
+use crate::root::root_of_ratio;
 use crate::system::express;
 use crate::unity::zeta;
 use crate::vector::scale;
@@ -66,7 +66,7 @@ fn pair(
     requires { ⌜ Answer p n (take n (now t2)) z true (second .vector) (second .constant) ⌝ }
     ensures { λ r. ⌜ FoundPair p n (take n (now (t1 .entry))) (take n (now (t2 .entry))) (r .number) (r .forward) (r .backward) ⌝ }
 {
-    let c = ratio(p, n as u64, z, first.constant, second.constant);
+    let c = root_of_ratio(p, n as u64, z, first.constant, second.constant);
     let alpha1 = first.vector;
     let alpha2 = second.vector;
     let s = forward(p, n, c, t1, t2, &alpha1, &alpha2, m);

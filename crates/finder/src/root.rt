@@ -2,7 +2,7 @@
 ghost use mathlib.Core.Path.{_≡_};
 ghost use Prim.Native.Nat.{_*_, _%_, _^_, _≤_, _<_};
 ghost use lib.Dec.{eqb};
-ghost use Rattle.finder.specs.Finder.{ratio as ratioOf};
+ghost use Rattle.finder.specs.Finder.{rootOfRatio};
 ghost use Rattle.finder.specs.Root.{Admissible, OrderModulo, Solvable};
 use modular::word::inverse;
 use modular::word::mul;
@@ -107,11 +107,11 @@ fn solution(p: u64, n: u64, a1: u64, a2: u64) -> u64
 }
 
 // The smallest c with c^n·a2 = a1, given ζ.
-pub fn ratio(p: u64, n: u64, z: u64, a1: u64, a2: u64) -> u64
+pub fn root_of_ratio(p: u64, n: u64, z: u64, a1: u64, a2: u64) -> u64
     requires { ⌜ Admissible p n ⌝ }
     requires { ⌜ (z < p) × OrderModulo p n z ⌝ }
     requires { ⌜ Solvable p n a1 a2 ⌝ }
-    ensures { λ r. ⌜ (r ≡ ratioOf p n a1 a2) × (r < p) ⌝ }
+    ensures { λ r. ⌜ (r ≡ rootOfRatio p n a1 a2) × (r < p) ⌝ }
 {
     let mut x = solution(p, n, a1, a2);
     let mut least = x;

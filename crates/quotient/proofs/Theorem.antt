@@ -46,8 +46,8 @@ power-of-unit p n t u prime wt irreducible wu h =
 pub divisor-test-is-exact : DivisorTestIsExact
 divisor-test-is-exact p n t big wt = (Decision.test-has-divisor big wt, Decision.has-divisor-test big wt)
 
-pub divisor-of-least-degree : Theorem.DivisorOfLeastDegree
-divisor-of-least-degree p n t prime wt = Descent.irreducible-divisor p n t (prime .0) wt
+pub irreducible-divisor : Theorem.IrreducibleDivisor
+irreducible-divisor p n t prime wt = Descent.irreducible-divisor p n t (prime .0) wt
 
 pub frobenius-is-linear : Theorem.FrobeniusIsLinear
 frobenius-is-linear p n c t u v prime h wt wu wv = (Frobenius.frobenius-sum prime wt (u, wu) (v, wv), Frobenius.frobenius-scale prime wt c (u, wu))

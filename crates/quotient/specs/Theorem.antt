@@ -7,7 +7,7 @@
 --   ResiduesAreListed       the list of all residues has each of them, none twice, p^n in all
 --   NonZeroIsUnit           p prime, T without a divisor of degree 1 to n − 1: every residue but 0 has an inverse
 --   PowerOfUnit             for such T, u^(p^n − 1) = 1 for every residue u but 0
---   DivisorOfLeastDegree    p prime: T has a monic divisor of degree 1 to n that has itself no divisor of lower degree but constants
+--   IrreducibleDivisor      p prime: T has a monic divisor of degree 1 to n that has itself no divisor of lower degree but constants
 --   FrobeniusIsLinear       p prime: (u + v)^p = u^p + v^p and (c·u)^p = c·u^p
 use mathlib.Core.Path.{_≡_}
 use mathlib.Core.List.{List}
@@ -59,8 +59,8 @@ PowerOfUnit =
     (p n : ℕ) (t u : List ℕ) → Prime p → Words p (suc n) t → (HasDivisor p t → ⊥) → Words p (suc n) u → (u ≡ constant (suc n) 0 → ⊥)
     → power p t u (p ^ suc n - 1) ≡ constant (suc n) 1
 
-abbrev pub DivisorOfLeastDegree : Type 0
-DivisorOfLeastDegree =
+abbrev pub IrreducibleDivisor : Type 0
+IrreducibleDivisor =
     (p n : ℕ) (t : List ℕ) → Prime p → Words p (suc n) t
     → (m : ℕ) × (d : List ℕ) × (m ≤ n) × Words p (suc m) d × Divides p d t × (HasDivisor p d → ⊥)
 

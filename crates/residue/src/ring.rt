@@ -189,7 +189,7 @@ fn raise(
 }
 
 // X^e modulo T into w, which is 0. An exponent below n needs no product.
-fn monomial(p: u64, k: u64, r: u64, n: usize, t: &[u64; 16], e: u64, w: &mut [u64; 16])
+fn power_of_x_by_halving(p: u64, k: u64, r: u64, n: usize, t: &[u64; 16], e: u64, w: &mut [u64; 16])
     requires { ⌜ Modulus p k r × (1 ≤ n) × (n ≤ 16) ⌝ }
     requires { ⌜ Holds p n (now t) ⌝ }
     requires { ⌜ now w ≡ replicate 16 0 ⌝ }
@@ -200,7 +200,7 @@ fn monomial(p: u64, k: u64, r: u64, n: usize, t: &[u64; 16], e: u64, w: &mut [u6
         return;
     }
     let mut half = [0; 16];
-    monomial(p, k, r, n, t, e / 2, &mut half);
+    power_of_x_by_halving(p, k, r, n, t, e / 2, &mut half);
     raise(p, k, r, n, t, &half, e, w);
     reduce(p, k, r, n, w);
 }
@@ -214,7 +214,7 @@ pub fn power_of_x(p: u64, n: usize, t: &[u64; 16]) -> [u64; 16]
     let k = multiplier(p);
     let r = reciprocal(p, k);
     let mut w = [0; 16];
-    monomial(p, k, r, n, t, p, &mut w);
+    power_of_x_by_halving(p, k, r, n, t, p, &mut w);
     w
 }
 

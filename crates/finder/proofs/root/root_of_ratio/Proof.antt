@@ -1,10 +1,10 @@
--- `ratio` keeps the least of the multiples of one solution by the powers of ζ; every solution is one of them.
+-- `root_of_ratio` keeps the least of the multiples of one solution by the powers of ζ; every solution is one of them.
 use borrow.Author.Needs.{needs}
 use mathlib.Core.Logic.{⊎-elim}
 use Prim.Native.Nat.{_-_}
 use Rattle.finder.proofs.RootScan.{Least, least-start, least-lower, least-same, least-end}
-use Rattle.finder.proofs.root.ratio.Statement.{statement}
-use Rattle.finder.proofs.root.ratio.Tie as tie
+use Rattle.finder.proofs.root.root_of_ratio.Statement.{statement}
+use Rattle.finder.proofs.root.root_of_ratio.Tie as tie
 
 abbrev Inv-loop : tie.InvT-loop
 Inv-loop p n z a1 a2 x₀ least₀ k₀ x least k = Least p n z a1 a2 x₀ least x k
@@ -33,8 +33,8 @@ loop-again c = ⊎-elim (λ w. search least-lower) (λ w. search least-same) (c 
 returns : tie.Need-returns Inv-loop μ-loop
 returns c = (search least-end, search needs)
 
-pub ratio-spec : {M : Type 1} → statement M
-ratio-spec =
+pub root-of-ratio-spec : {M : Type 1} → statement M
+root-of-ratio-spec =
     tie.close
     (tie.spec
     Inv-loop
