@@ -17,7 +17,7 @@ use Rattle.session.specs.declared.State.the-variants.{Empty, Loaded, Pai
 use Rattle.session.proofs.Answer.{step-path, answer-number, answer-accepts}
 use Rattle.session.proofs.Reached.{loaded-models}
 use Rattle.session.proofs.Seen.{empty-seen, loaded-seen, paired-seen}
-use Rattle.session.proofs.Unchanged.{refusal-changes-nothing}
+use Rattle.session.proofs.Unchanged.{refusals-change-nothing}
 
 -- 1 to 4: the number for p and n where it is not 0, else the number for the lists
 module _ (p n k rest : ℕ) (e : k ≡ refuse 1 (badPrime p) (refuse 2 (badDegree n) 0)) where
@@ -53,7 +53,7 @@ module _ (x : Session) (p n : ℕ) (t1 t2 : List ℕ) where
 
   module _ (k : ℕ) (e : k ≡ load x p n t1 t2 .number) where
     pub load-refused : (k ≡ 0 → ⊥) → record { number = k; session = x } ≡ load x p n t1 t2
-    load-refused h = step-path e (sym (refusal-changes-nothing x .load-keeps p n t1 t2 (λ z. h (e ∙ z))))
+    load-refused h = step-path e (sym (refusals-change-nothing x .load-keeps p n t1 t2 (λ z. h (e ∙ z))))
 
     module _ (h : k ≡ 0) where
       accepted : Models p n t1 t2 × (load x p n t1 t2 .session ≡ loadedSession p n t1 t2)

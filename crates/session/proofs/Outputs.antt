@@ -16,7 +16,7 @@ use Rattle.session.specs.declared.State.the-variants.{Empty, Loaded, Pai
 use Rattle.session.proofs.Answer.{step-path}
 use Rattle.session.proofs.Seen.{empty-seen, loaded-seen, paired-seen, forward-whole, back-whole}
 use Rattle.session.proofs.Whole.{whole-size, front-words}
-use Rattle.session.proofs.Unchanged.{refusal-changes-nothing}
+use Rattle.session.proofs.Unchanged.{refusals-change-nothing}
 
 -- what holds the first n words of two arrays
 module _ (p n : ℕ) (t s : List ℕ) (lt : length t ≡ 16) (ls : length s ≡ 16) (h : whole p n (take n t ∷ take n s ∷ []) ≡ true) where
@@ -93,8 +93,11 @@ module _ (x : Session) (table out : List ℕ) (k : ℕ) (e : k ≡ convertNumber
   module _ (h : k ≡ 0 → ⊥) where
     pub forward-kept : out ≡ forwardOutput x table out
     unfolding convert
-    forward-kept = sym (refusal-changes-nothing x .forward-keeps table out (λ z. h (e ∙ z)))
+    forward-kept = sym (refusals-change-nothing x .forward-keeps table out (λ z. h (e ∙ z)))
 
     pub back-kept : out ≡ backOutput x table out
     unfolding convert
-    back-kept = sym (refusal-changes-nothing x .back-keeps table out (λ z. h (e ∙ z)))
+    back-kept = sym (refusals-change-nothing x .back-keeps table out (λ z. h (e ∙ z)))
+
+-- neither the modulus nor the image of X of a map is refused, forward or back
+pub ruleset maps-given = (forward-given, back-given)

@@ -19,7 +19,7 @@ use Rattle.session.specs.declared.State.the-variants.{Empty, Loaded, Pai
 use Rattle.session.proofs.Answer.{step-path, answer-number, answer-accepts}
 use Rattle.session.proofs.Seen.{empty-seen, loaded-seen, paired-seen}
 use Rattle.session.proofs.Whole.{whole-given, whole-degree, front-lengths, lengths-after, words-after}
-use Rattle.session.proofs.Unchanged.{refusal-changes-nothing}
+use Rattle.session.proofs.Unchanged.{refusals-change-nothing}
 
 pub checks-pair : (p n k : ℕ) (t1 t2 s r : List ℕ) → length t1 ≡ 16 → length t2 ≡ 16 → whole p n (take n t1 ∷ take n t2 ∷ []) ≡ true
     → k ≡ checkNumber p n (take n t1) (take n t2) s r
@@ -58,7 +58,7 @@ module _ (x : Session) (s r : List ℕ) where
 
   module _ (k : ℕ) (e : k ≡ propose x s r .number) where
     pub propose-refused : (k ≡ 0 → ⊥) → record { number = k; session = x } ≡ propose x s r
-    propose-refused h = step-path e (sym (refusal-changes-nothing x .propose-keeps s r (λ z. h (e ∙ z))))
+    propose-refused h = step-path e (sym (refusals-change-nothing x .propose-keeps s r (λ z. h (e ∙ z))))
 
     module _ (h : k ≡ 0) where
       is-loaded : Loaded ≡ stateOf (view x)

@@ -1,11 +1,11 @@
 -- A refused call gives back the session it took, and a lent list holds what it held: the answer and the list go by the number alone.
-use mathlib.Core.Path.{_≡_, ap}
+use mathlib.Core.Path.{_≡_, refl, ap}
 use mathlib.Core.List.{List}
 use Prim.Native.Nat.{ℕ}
 use borrow.Author.Tests.{ne-eqb}
 use Rattle.modular.specs.Refusal.{pick, written}
 use Rattle.session.specs.Session.{View, empty, loaded, paired, view, loadFrom, load, proposeFrom, propose, findFrom, find, convertNumber, convert, forwardOutput, backOutput}
-use Rattle.session.specs.Theorem.{RefusalChangesNothing}
+use Rattle.session.specs.Theorem.{RefusalsChangeNothing}
 use Rattle.session.specs.declared.Session.{Session}
 use Rattle.session.proofs.Answer.{answer-keeps}
 
@@ -30,13 +30,14 @@ find-keeps empty x = answer-keeps _ x _
 find-keeps (loaded p n t1 t2) x = answer-keeps _ x _
 find-keeps (paired p n t1 t2 s r) x = answer-keeps _ x _
 
-pub refusal-changes-nothing : (x : Session) → RefusalChangesNothing x
+pub refusals-change-nothing : RefusalsChangeNothing
 unfolding load propose find convert forwardOutput backOutput
-refusal-changes-nothing x =
+refusals-change-nothing x =
     record {
       load-keeps = load-keeps (view x) x;
       propose-keeps = propose-keeps (view x) x;
       find-keeps = find-keeps (view x) x;
+      convert-keeps = λ table out. refl;
       forward-keeps = λ table out h. written-keeps (convertNumber (view x) table out) _ out h;
       back-keeps = λ table out h. written-keeps (convertNumber (view x) table out) _ out h;
     }

@@ -2,9 +2,13 @@
 --   Call, next x c, run x cs    one call, the session after it, and the session after a list of calls
 --   Reached x                   x is new, or loaded with models that 1, 2 and 4 do not refuse, or paired, and the checker accepts its pair
 --   EveryRun                    every list of calls makes such a session of a new one
---   RefusalChangesNothing       a refused call gives back the session it took, and a lent list holds what it held
+--   RefusalChangesNothing x     a refused call gives back x, and a lent list holds what it held; a conversion gives back x, refused or not
+--   RefusalsChangeNothing       that of every x
 --   CountsAsHeld                a new, loaded or paired session that calls make counts as that
---   GroupByGroup                the k-th group of n words in the output of a conversion is the image of the k-th group of the input
+--   Images n f table image      image has the table's length, and its k-th group of n words is f of the table's k-th group, for every k
+--   GroupByGroup                of a value that counts as paired, with n words in T1 and in T2, a conversion that is not refused writes the images
+--                               of the table under the forward or the backward map. Of a value's arrays of 16 words the first n count, so its T1
+--                               and T2 have n words
 --   BackAgain                   in a session that calls have made, back after forward gives every table again, and forward after back
 use mathlib.Core.Path.{_≡_}
 use mathlib.Core.List.{List, [], _∷_}
@@ -47,8 +51,12 @@ pub record RefusalChangesNothing (x : Session) : Type 0 where
   pub load-keeps : (p n : ℕ) (t1 t2 : List ℕ) → (load x p n t1 t2 .number ≡ 0 → ⊥) → load x p n t1 t2 .session ≡ x
   pub propose-keeps : (s r : List ℕ) → (propose x s r .number ≡ 0 → ⊥) → propose x s r .session ≡ x
   pub find-keeps : (find x .number ≡ 0 → ⊥) → find x .session ≡ x
+  pub convert-keeps : (table out : List ℕ) → convert x table out .session ≡ x
   pub forward-keeps : (table out : List ℕ) → (convert x table out .number ≡ 0 → ⊥) → forwardOutput x table out ≡ out
   pub back-keeps : (table out : List ℕ) → (convert x table out .number ≡ 0 → ⊥) → backOutput x table out ≡ out
+
+abbrev pub RefusalsChangeNothing : Type 0
+RefusalsChangeNothing = (x : Session) → RefusalChangesNothing x
 
 -- what the calls make counts as what it holds
 pub record CountsAsHeld : Type 0 where
@@ -57,13 +65,15 @@ pub record CountsAsHeld : Type 0 where
   pub paired-is-paired :
       (p n : ℕ) (t1 t2 s r : List ℕ) → checkNumber p n t1 t2 s r ≡ 0 → view (pairedSession p n t1 t2 s r) ≡ paired p n t1 t2 s r
 
--- for every k; a value's arrays have 16 words, so the lists of a value that counts as paired have n
+pub record Images (n : ℕ) (f : List ℕ → List ℕ) (table image : List ℕ) : Type 0 where
+  pub same-length : length image ≡ length table
+  pub groups : (k : ℕ) → k < length table / n → take n (drop (k * n) image) ≡ f (take n (drop (k * n) table))
+
 abbrev pub GroupByGroup : Type 0
 GroupByGroup =
-    (x : Session) (p n k : ℕ) (t1 t2 s r table out : List ℕ) → view x ≡ paired p n t1 t2 s r → length t1 ≡ n → length t2 ≡ n
-    → convertNumber (view x) table out ≡ 0 → k < length table / n
-    → (take n (drop (k * n) (forwardOutput x table out)) ≡ forward p t2 s (take n (drop (k * n) table)))
-    × (take n (drop (k * n) (backOutput x table out)) ≡ backward p t1 r (take n (drop (k * n) table)))
+    (x : Session) (p n : ℕ) (t1 t2 s r table out : List ℕ) → view x ≡ paired p n t1 t2 s r → length t1 ≡ n → length t2 ≡ n
+    → convertNumber (view x) table out ≡ 0
+    → Images n (forward p t2 s) table (forwardOutput x table out) × Images n (backward p t1 r) table (backOutput x table out)
 
 abbrev pub BackAgain : Type 0
 BackAgain =

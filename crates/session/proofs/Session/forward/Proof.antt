@@ -1,6 +1,6 @@
 -- `forward` meets its contract: the output is written only where the number is 0.
 use borrow.Author.Needs.{needs}
-use Rattle.session.proofs.Outputs.{convert-step, table-not-refused, forward-given, back-given, forward-done, forward-kept}
+use Rattle.session.proofs.Outputs.{convert-step, table-not-refused, maps-given, forward-done, forward-kept}
 use Rattle.session.proofs.Session.forward.Statement.{statement}
 use Rattle.session.proofs.Session.forward.Tie as tie
 
@@ -8,7 +8,7 @@ convert-number-requires : tie.Need-convert-number-requires
 convert-number-requires c κs = search needs
 
 convert-words-requires : tie.Need-convert-words-requires
-convert-words-requires c κs = (search (forward-given, back-given), search table-not-refused)
+convert-words-requires c κs = (search maps-given, search table-not-refused)
 
 same-length : tie.Need-same-length
 same-length c = search needs
