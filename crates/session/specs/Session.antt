@@ -1,14 +1,16 @@
 -- The session (document 01, "The session"): "a value: empty, loaded (p, n, T1, T2) or paired (also S, R)".
---   View                     what a session counts as
---   view x                   a value with a p, n or coefficient that 1, 2 or 4 refuses counts as a new one, which is empty
+--   View                        what a session counts as
+--   view x                      what x counts as: a value with a p, n or coefficient, of those that its state has, that 1, 2 or 4 refuses counts as a
+--                               new one, which is empty
 --   newSession, loadedSession, pairedSession    the values that the calls make
---   answer k next taken      number k: the next session where k is 0, else the session taken
---   load x p n t1 t2         load: empty to loaded; 23, 1 to 4
---   propose x s r            propose S, R: loaded to paired if the checker accepts; 21, 24, 3, 4, 8
---   find x                   find: loaded to paired with the finder's pair; 21, 24, 5, 6, 7
---   forward x table out, forwardOutput x table out    convert a table by S, modulo T2; 21, 22, 9, 10, 4
---   back x table out, backOutput x table out          convert a table by R, modulo T1; likewise
---   clear x                  any state to empty; it never refuses
+--   answer k next taken         number k: the next session where k is 0, else the session taken
+--   load x p n t1 t2            load: empty to loaded; 23, 1 to 4
+--   propose x s r               propose S, R: loaded to paired if the checker accepts; 21, 24, 3, 4, 8
+--   find x                      find: loaded to paired with the finder's pair; 21, 24, 5, 6, 7
+--   convert x table out         the answer of forward and of back: 21, 22, 9, 10, 4, and the session taken
+--   forwardOutput x table out   what the lent list then holds: the table converted by S, modulo T2
+--   backOutput x table out      the same by R, modulo T1
+--   clear x                     any state to empty; it never refuses
 use mathlib.Core.Bool.{Bool, true, false, _&&_, _||_, not}
 use mathlib.Core.List.{List, [], _∷_, _++_}
 use Prim.Native.Nat.{ℕ, zero, suc, _/_, _%_}

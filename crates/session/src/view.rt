@@ -1,4 +1,4 @@
-// What a session counts as: a value with a p, n or coefficient that 1, 2 or 4 refuses counts as a new one.
+// What a session counts as: a value with a p, n or coefficient, of those that its state has, that 1, 2 or 4 refuses counts as a new one.
 use crate::Session;
 use crate::State;
 use crate::refusal::both_below;
