@@ -18,7 +18,7 @@ use Rattle.quotient.specs.DivisorTest.{hasDivisor}
 use Rattle.quotient.specs.Residue.{sum, scale, constant, shift, top, timesX, product, power, residueOfX, substitute, modulusAt}
 use Rattle.modular.proofs.Refusal.{refuse-none}
 use Rattle.quotient.specs.Array.{padded}
-use Rattle.session.specs.Session.{whole, viewAs, view, pairedSession, converted, tableNumber, convertNumber, imageForward, imageBack, forwardOutput, backOutput}
+use Rattle.session.specs.Session.{valid, viewAs, view, pairedSession, converted, tableNumber, convertNumber, imageForward, imageBack, forwardOutput, backOutput}
 use Rattle.examples.specs.Examples.{Found, Examples}
 use Rattle.examples.proofs.Root.{root}
 use Rattle.examples.proofs.Listed.{found, outputs}
@@ -27,7 +27,7 @@ use Rattle.examples.proofs.Refused.{words-counted, factor-divides, indi
 pub examples : Examples
 unfolding all equal first range bits numberFrom bytes packed width allBits card badKind cardLength writeNumber writeOutput zeta rootOfRatio firstNonZero findNumber isPrime badPrime badDegree badLength
     badWord allBelow accepts checkNumber monic polynomialProduct sum scale constant shift top timesX product power residueOfX substitute modulusAt
-    padded whole viewAs view pairedSession converted tableNumber convertNumber imageForward imageBack forwardOutput backOutput
+    padded valid viewAs view pairedSession converted tableNumber convertNumber imageForward imageBack forwardOutput backOutput
 examples =
     let A : Found 3 2 (1 ∷ 0 ∷ []) (2 ∷ 1 ∷ []) 2 (0 ∷ 1 ∷ []) (1 ∷ 2 ∷ []) 2 2 1 (1 ∷ 2 ∷ []) (1 ∷ 2 ∷ []) =
     found refl refl refl (root refl refl refl refl refl) (root refl refl refl refl refl) refl refl in

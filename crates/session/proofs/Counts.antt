@@ -11,15 +11,15 @@ use lib.ListN.{take}
 use Rattle.algebra.specs.Lists.{all}
 use Rattle.modular.specs.Refusal.{refuse, badPrime, badDegree, badWord}
 use Rattle.modular.proofs.Refusal.{refuse-none, degree-given}
-use Rattle.session.specs.Session.{whole, view, viewAs}
-use Rattle.session.specs.Kind.{stateOf}
+use Rattle.session.specs.Session.{valid, view, viewAs}
+use Rattle.session.specs.ViewState.{viewState}
 use Rattle.session.specs.declared.Session.{Session}
 use Rattle.session.specs.declared.State.the-variants.{Empty, Loaded, Paired}
-use Rattle.session.proofs.Whole.{whole-degree}
+use Rattle.session.proofs.Valid.{valid-degree}
 
 module _ (p n : ℕ) (k : ℕ) (e : k ≡ refuse 1 (badPrime p) (refuse 2 (badDegree n) 0)) where
-  pub size-fails : (xss : List (List ℕ)) → (k ≡ 0 → ⊥) → false ≡ whole p n xss
-  unfolding whole
+  pub size-fails : (xss : List (List ℕ)) → (k ≡ 0 → ⊥) → false ≡ valid p n xss
+  unfolding valid
   size-fails xss h = go (badPrime p) (badDegree n) (λ z. h (e ∙ z))
     where
       go : (a b : Bool) → (refuse 1 a (refuse 2 b 0) ≡ 0 → ⊥) → false ≡ not a && not b && not (badWord p xss)
@@ -36,46 +36,46 @@ module _ (p n : ℕ) (k : ℕ) (e : k ≡ refuse 1 (badPrime p) (refuse 2 (badDe
     pub size-degree : n ≤ 16
     size-degree = degree-given n (size .1) .1
 
-    pub models-decided : (r : Bool) (a b : List ℕ) → r ≡ not (badWord p (a ∷ b ∷ [])) → r ≡ whole p n (a ∷ b ∷ [])
-    unfolding whole
+    pub models-decided : (r : Bool) (a b : List ℕ) → r ≡ not (badWord p (a ∷ b ∷ [])) → r ≡ valid p n (a ∷ b ∷ [])
+    unfolding valid
     models-decided r a b f = rw (size .0, size .1) f
 
-module _ (p n : ℕ) (w : Bool) (a b : List ℕ) (e : w ≡ whole p n (a ∷ b ∷ [])) where
-  whole-four : (c d : List ℕ) → whole p n (a ∷ b ∷ c ∷ d ∷ []) ≡ whole p n (a ∷ b ∷ []) && not (badWord p (c ∷ d ∷ []))
-  unfolding whole badWord all
-  whole-four c d = simp (Bool·not-not, and-true, and-assoc)
+module _ (p n : ℕ) (w : Bool) (a b : List ℕ) (e : w ≡ valid p n (a ∷ b ∷ [])) where
+  valid-four : (c d : List ℕ) → valid p n (a ∷ b ∷ c ∷ d ∷ []) ≡ valid p n (a ∷ b ∷ []) && not (badWord p (c ∷ d ∷ []))
+  unfolding valid badWord all
+  valid-four c d = simp (Bool·not-not, and-true, and-assoc)
 
-  pub models-fail : (c d : List ℕ) → not w ≡ true → false ≡ whole p n (a ∷ b ∷ c ∷ d ∷ [])
-  models-fail c d h = rw (whole-four c d, ← e, not-true w h)
+  pub models-fail : (c d : List ℕ) → not w ≡ true → false ≡ valid p n (a ∷ b ∷ c ∷ d ∷ [])
+  models-fail c d h = rw (valid-four c d, ← e, not-true w h)
 
   pub models-degree : not w ≡ false → n ≤ 16
-  models-degree h = whole-degree p n (a ∷ b ∷ []) (sym e ∙ not-false w h)
+  models-degree h = valid-degree p n (a ∷ b ∷ []) (sym e ∙ not-false w h)
 
-  pub pair-decided : (r : Bool) (c d : List ℕ) → not w ≡ false → r ≡ not (badWord p (c ∷ d ∷ [])) → r ≡ whole p n (a ∷ b ∷ c ∷ d ∷ [])
-  pair-decided r c d h f = rw (whole-four c d, ← e, not-false w h) f
+  pub pair-decided : (r : Bool) (c d : List ℕ) → not w ≡ false → r ≡ not (badWord p (c ∷ d ∷ [])) → r ≡ valid p n (a ∷ b ∷ c ∷ d ∷ [])
+  pair-decided r c d h f = rw (valid-four c d, ← e, not-false w h) f
 
 -- the session
 
 module _ (x : Session) where
-  pub counts-empty : x .state ≡ Empty → Empty ≡ stateOf (view x)
-  unfolding stateOf view viewAs
+  pub counts-empty : x .state ≡ Empty → Empty ≡ viewState (view x)
+  unfolding viewState view viewAs
   counts-empty e = rw e
 
-  module _ (e : x .state ≡ Loaded) (b : Bool) (f : b ≡ whole (x .p) (x .n) (take (x .n) (x .t1) ∷ take (x .n) (x .t2) ∷ [])) where
-    pub counts-loaded : b ≡ true → Loaded ≡ stateOf (view x)
-    unfolding stateOf view viewAs
+  module _ (e : x .state ≡ Loaded) (b : Bool) (f : b ≡ valid (x .p) (x .n) (take (x .n) (x .t1) ∷ take (x .n) (x .t2) ∷ [])) where
+    pub counts-loaded : b ≡ true → Loaded ≡ viewState (view x)
+    unfolding viewState view viewAs
     counts-loaded h = rw (e, ← f, h)
 
-    pub loaded-counts-empty : b ≡ false → Empty ≡ stateOf (view x)
-    unfolding stateOf view viewAs
+    pub loaded-counts-empty : b ≡ false → Empty ≡ viewState (view x)
+    unfolding viewState view viewAs
     loaded-counts-empty h = rw (e, ← f, h)
 
   module _ (e : x .state ≡ Paired) (b : Bool)
-      (f : b ≡ whole (x .p) (x .n) (take (x .n) (x .t1) ∷ take (x .n) (x .t2) ∷ take (x .n) (x .s) ∷ take (x .n) (x .r) ∷ [])) where
-    pub counts-paired : b ≡ true → Paired ≡ stateOf (view x)
-    unfolding stateOf view viewAs
+      (f : b ≡ valid (x .p) (x .n) (take (x .n) (x .t1) ∷ take (x .n) (x .t2) ∷ take (x .n) (x .s) ∷ take (x .n) (x .r) ∷ [])) where
+    pub counts-paired : b ≡ true → Paired ≡ viewState (view x)
+    unfolding viewState view viewAs
     counts-paired h = rw (e, ← f, h)
 
-    pub paired-counts-empty : b ≡ false → Empty ≡ stateOf (view x)
-    unfolding stateOf view viewAs
+    pub paired-counts-empty : b ≡ false → Empty ≡ viewState (view x)
+    unfolding viewState view viewAs
     paired-counts-empty h = rw (e, ← f, h)

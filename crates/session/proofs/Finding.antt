@@ -13,8 +13,8 @@ use Rattle.modular.specs.Refusal.{written}
 use Rattle.pair.proofs.Theorem.{checker-theorem}
 use Rattle.modular.proofs.Refusal.{prime-given, degree-given}
 use Rattle.quotient.proofs.Words.{words-length}
-use Rattle.session.specs.Kind.{stateOf}
-use Rattle.session.specs.Session.{loaded, whole, view, pairedSession, answer, findFrom, find}
+use Rattle.session.specs.ViewState.{viewState}
+use Rattle.session.specs.Session.{loaded, valid, view, pairedSession, answer, findFrom, find}
 use Rattle.session.specs.declared.Session.{Session}
 use Rattle.session.specs.declared.State.{State}
 use Rattle.session.specs.declared.State.the-variants.{Empty, Loaded, Paired}
@@ -22,7 +22,7 @@ use Rattle.session.specs.declared.Step.{Step}
 use Rattle.session.proofs.Answer.{step-path, answer-number, answer-keeps}
 use Rattle.session.proofs.Reached.{found-accepted}
 use Rattle.session.proofs.Seen.{empty-seen, loaded-seen, paired-seen}
-use Rattle.session.proofs.Whole.{whole-given, whole-degree, front-lengths, front-words, lengths-after}
+use Rattle.session.proofs.Valid.{valid-given, valid-degree, front-lengths, front-words, lengths-after}
 
 -- the finder's pair in two lists, where 5, 6 and 7 do not apply
 pub record Found (p n : ℕ) (t1 t2 s r : List ℕ) : Type 0 where
@@ -33,10 +33,10 @@ pub record Found (p n : ℕ) (t1 t2 s r : List ℕ) : Type 0 where
   pub r-length : length r ≡ n
 
 -- models to which 1, 2 and 4 do not apply
-module _ (p n : ℕ) (t1 t2 : List ℕ) (l1 : length t1 ≡ 16) (l2 : length t2 ≡ 16) (h : whole p n (take n t1 ∷ take n t2 ∷ []) ≡ true) where
+module _ (p n : ℕ) (t1 t2 : List ℕ) (l1 : length t1 ≡ 16) (l2 : length t2 ≡ 16) (h : valid p n (take n t1 ∷ take n t2 ∷ []) ≡ true) where
   models : Models p n (take n t1) (take n t2)
   models =
-      let (prime, degree, words) = whole-given p n (take n t1 ∷ take n t2 ∷ []) h in
+      let (prime, degree, words) = valid-given p n (take n t1 ∷ take n t2 ∷ []) h in
       record {
         prime = prime-given p prime .0;
         small = prime-given p prime .1;
@@ -53,8 +53,8 @@ module _ (p n : ℕ) (t1 t2 : List ℕ) (l1 : length t1 ≡ 16) (l2 : length t2 
   unfolding findNumber number
   number-is s r ls lr =
       let xss = take n t1 ∷ take n t2 ∷ [] in
-      let (prime, degree, words) = whole-given p n xss h in
-      let small = whole-degree p n xss h in
+      let (prime, degree, words) = valid-given p n xss h in
+      let small = valid-degree p n xss h in
       rw (
         prime,
         degree,
@@ -108,7 +108,7 @@ module _ {p n : ℕ} {t1 t2 s r : List ℕ} (g : Found p n t1 t2 s r) (u v : Lis
       (step-path refl (e ∙ ap₂ (pairedSession p n t1 t2) (take-at s u n (g .s-length) ∙ g .s-is) (take-at r v n (g .r-length) ∙ g .r-is)))
 
 -- by the state of what the session counts as
-module _ (x : Session) (state : State) (e : state ≡ stateOf (view x)) where
+module _ (x : Session) (state : State) (e : state ≡ viewState (view x)) where
   pub find-empty : state ≡ Empty → record { number = 21; session = x } ≡ find x
   unfolding find findFrom answer
   find-empty h = rw (empty-seen x state e h)

@@ -6,7 +6,7 @@ pub mod Unchanged
 pub mod Reached
 pub mod Again
 pub mod Refusals
-pub mod Whole
+pub mod Valid
 pub mod Counts
 pub mod Seen
 pub mod Values

@@ -9,7 +9,7 @@ use Rattle.pair.specs.Theorem.{Models}
 use Rattle.modular.specs.Refusal.{refuse, refuseSent, badPrime, badDegree}
 use Rattle.quotient.proofs.Words.{words-length}
 use Rattle.modular.proofs.Refusal.{refuse-none}
-use Rattle.session.specs.Kind.{stateOf}
+use Rattle.session.specs.ViewState.{viewState}
 use Rattle.session.specs.Session.{View, empty, loaded, paired, view, newSession, loadedSession, loadFrom, load, clear, answer}
 use Rattle.session.specs.declared.Session.{Session}
 use Rattle.session.specs.declared.State.{State}
@@ -36,7 +36,7 @@ module _ (p n k rest : ℕ) (e : k ≡ refuse 1 (badPrime p) (refuse 2 (badDegre
 
 module _ (x : Session) (p n : ℕ) (t1 t2 : List ℕ) where
   -- the number, by the state of what the session counts as
-  module _ (state : State) (e : state ≡ stateOf (view x)) where
+  module _ (state : State) (e : state ≡ viewState (view x)) where
     pub load-empty : state ≡ Empty → (k : ℕ)
         → k ≡ refuseSent p n (t1 ∷ t2 ∷ []) (t1 ∷ t2 ∷ []) 0
         → k ≡ load x p n t1 t2 .number

@@ -8,18 +8,18 @@ use lib.ListN.{length, take}
 use Rattle.quotient.proofs.Words.{words-length}
 use Rattle.quotient.specs.Array.{padded, Holds}
 use Rattle.quotient.proofs.Padded.{holds-is, take-padded}
-use Rattle.session.specs.Kind.{stateOf}
-use Rattle.session.specs.Session.{View, empty, loaded, paired, whole, view, converted, tableNumber, convertNumber, imageForward, imageBack, convert, forwardOutput, backOutput}
+use Rattle.session.specs.ViewState.{viewState}
+use Rattle.session.specs.Session.{View, empty, loaded, paired, valid, view, converted, tableNumber, convertNumber, imageForward, imageBack, convert, forwardOutput, backOutput}
 use Rattle.session.specs.declared.Session.{Session}
 use Rattle.session.specs.declared.State.{State}
 use Rattle.session.specs.declared.State.the-variants.{Empty, Loaded, Paired}
 use Rattle.session.proofs.Answer.{step-path}
-use Rattle.session.proofs.Seen.{empty-seen, loaded-seen, paired-seen, forward-whole, back-whole}
-use Rattle.session.proofs.Whole.{whole-size, front-words}
+use Rattle.session.proofs.Seen.{empty-seen, loaded-seen, paired-seen, forward-valid, back-valid}
+use Rattle.session.proofs.Valid.{valid-size, front-words}
 use Rattle.session.proofs.Unchanged.{refusals-change-nothing}
 
 -- what holds the first n words of two arrays
-module _ (p n : ℕ) (t s : List ℕ) (lt : length t ≡ 16) (ls : length s ≡ 16) (h : whole p n (take n t ∷ take n s ∷ []) ≡ true) where
+module _ (p n : ℕ) (t s : List ℕ) (lt : length t ≡ 16) (ls : length s ≡ 16) (h : valid p n (take n t ∷ take n s ∷ []) ≡ true) where
   pub modulus-holds : (a : List ℕ) → a ≡ padded (take n t) → Holds p n a
   modulus-holds a e = holds-is e (front-words p n t s lt ls h .0)
 
@@ -36,7 +36,7 @@ module _ (p n : ℕ) (t s : List ℕ) (lt : length t ≡ 16) (ls : length s ≡ 
 
 -- the number, by the state of what the session counts as
 
-module _ (x : Session) (table out : List ℕ) (state : State) (e : state ≡ stateOf (view x)) where
+module _ (x : Session) (table out : List ℕ) (state : State) (e : state ≡ viewState (view x)) where
   pub convert-empty : state ≡ Empty → 21 ≡ convertNumber (view x) table out
   unfolding convertNumber
   convert-empty h = rw (empty-seen x state e h)
@@ -46,7 +46,7 @@ module _ (x : Session) (table out : List ℕ) (state : State) (e : state ≡ sta
   convert-loaded h = rw (loaded-seen x state e h .0)
 
   pub paired-degree : state ≡ Paired → 1 ≤ x .n
-  paired-degree h = whole-size (x .p) (x .n) _ (paired-seen x state e h .1) .2
+  paired-degree h = valid-size (x .p) (x .n) _ (paired-seen x state e h .1) .2
 
   pub convert-paired : state ≡ Paired → (k : ℕ) → k ≡ tableNumber (x .p) (x .n) table out → k ≡ convertNumber (view x) table out
   unfolding convertNumber
@@ -60,11 +60,11 @@ module _ (x : Session) (table out : List ℕ) (k : ℕ) (e : k ≡ convertNumber
   convert-step = step-path e refl
 
   module _ (h : k ≡ 0) where
-    is-paired : Paired ≡ stateOf (view x)
-    unfolding convertNumber stateOf
+    is-paired : Paired ≡ viewState (view x)
+    unfolding convertNumber viewState
     is-paired = go (view x) (sym e ∙ h)
       where
-        go : (v : View) → convertNumber v table out ≡ 0 → Paired ≡ stateOf v
+        go : (v : View) → convertNumber v table out ≡ 0 → Paired ≡ viewState v
         go empty z = absurd (omega arith)
         go (loaded p n t1 t2) z = absurd (omega arith)
         go (paired p n t1 t2 s r) z = refl
@@ -73,11 +73,11 @@ module _ (x : Session) (table out : List ℕ) (k : ℕ) (e : k ≡ convertNumber
     unfolding convertNumber
     table-not-refused = rw (paired-seen x Paired is-paired refl .0) at (sym e ∙ h)
 
-    pub forward-given : whole (x .p) (x .n) (take (x .n) (x .t2) ∷ take (x .n) (x .s) ∷ []) ≡ true
-    forward-given = forward-whole (x .p) (x .n) _ _ _ _ (paired-seen x Paired is-paired refl .1)
+    pub forward-given : valid (x .p) (x .n) (take (x .n) (x .t2) ∷ take (x .n) (x .s) ∷ []) ≡ true
+    forward-given = forward-valid (x .p) (x .n) _ _ _ _ (paired-seen x Paired is-paired refl .1)
 
-    pub back-given : whole (x .p) (x .n) (take (x .n) (x .t1) ∷ take (x .n) (x .r) ∷ []) ≡ true
-    back-given = back-whole (x .p) (x .n) _ _ _ _ (paired-seen x Paired is-paired refl .1)
+    pub back-given : valid (x .p) (x .n) (take (x .n) (x .t1) ∷ take (x .n) (x .r) ∷ []) ≡ true
+    back-given = back-valid (x .p) (x .n) _ _ _ _ (paired-seen x Paired is-paired refl .1)
 
     module _ (image : List ℕ) where
       pub forward-done : image ≡ converted (x .p) (x .n) (take (x .n) (x .t2)) (take (x .n) (x .s)) (length table / x .n) table

@@ -11,34 +11,34 @@ use Rattle.modular.proofs.Refusal.{refuse-none}
 use Rattle.quotient.proofs.Refusal.{words-given}
 use Rattle.quotient.proofs.Words.{words-length}
 use Rattle.quotient.specs.Residue.{Words}
-use Rattle.session.specs.Kind.{stateOf}
-use Rattle.session.specs.Session.{View, empty, loaded, paired, whole, view, pairedSession, answer, proposeFrom, propose}
+use Rattle.session.specs.ViewState.{viewState}
+use Rattle.session.specs.Session.{View, empty, loaded, paired, valid, view, pairedSession, answer, proposeFrom, propose}
 use Rattle.session.specs.declared.Session.{Session}
 use Rattle.session.specs.declared.State.{State}
 use Rattle.session.specs.declared.State.the-variants.{Empty, Loaded, Paired}
 use Rattle.session.proofs.Answer.{step-path, answer-number, answer-accepts}
 use Rattle.session.proofs.Seen.{empty-seen, loaded-seen, paired-seen}
-use Rattle.session.proofs.Whole.{whole-given, whole-degree, front-lengths, lengths-after, words-after}
+use Rattle.session.proofs.Valid.{valid-given, valid-degree, front-lengths, lengths-after, words-after}
 use Rattle.session.proofs.Unchanged.{refusals-change-nothing}
 
-pub checks-pair : (p n k : ℕ) (t1 t2 s r : List ℕ) → length t1 ≡ 16 → length t2 ≡ 16 → whole p n (take n t1 ∷ take n t2 ∷ []) ≡ true
+pub checks-pair : (p n k : ℕ) (t1 t2 s r : List ℕ) → length t1 ≡ 16 → length t2 ≡ 16 → valid p n (take n t1 ∷ take n t2 ∷ []) ≡ true
     → k ≡ checkNumber p n (take n t1) (take n t2) s r
     → k ≡ refuse 3 (badLength n (s ∷ r ∷ [])) (refuse 4 (badWord p (s ∷ r ∷ [])) (refuse 8 (not (accepts p (take n t1) (take n t2) s r)) 0))
 unfolding checkNumber
 checks-pair p n k t1 t2 s r l1 l2 h e =
     let xss = take n t1 ∷ take n t2 ∷ [] in
-    let (prime, degree, words) = whole-given p n xss h in
+    let (prime, degree, words) = valid-given p n xss h in
     e
     ∙ rw (
       prime,
       degree,
-      lengths-after n (take n t1) (take n t2) (s ∷ r ∷ []) (front-lengths n t1 t2 (whole-degree p n xss h) l1 l2),
+      lengths-after n (take n t1) (take n t2) (s ∷ r ∷ []) (front-lengths n t1 t2 (valid-degree p n xss h) l1 l2),
       words-after p (take n t1) (take n t2) (s ∷ r ∷ []) words,
     )
 
 module _ (x : Session) (s r : List ℕ) where
   -- the number, by the state of what the session counts as
-  module _ (state : State) (e : state ≡ stateOf (view x)) where
+  module _ (state : State) (e : state ≡ viewState (view x)) where
     pub propose-empty : state ≡ Empty → 21 ≡ propose x s r .number
     unfolding propose proposeFrom answer
     propose-empty h = rw (empty-seen x state e h)
@@ -61,11 +61,11 @@ module _ (x : Session) (s r : List ℕ) where
     propose-refused h = step-path e (sym (refusals-change-nothing x .propose-keeps s r (λ z. h (e ∙ z))))
 
     module _ (h : k ≡ 0) where
-      is-loaded : Loaded ≡ stateOf (view x)
-      unfolding propose proposeFrom stateOf
+      is-loaded : Loaded ≡ viewState (view x)
+      unfolding propose proposeFrom viewState
       is-loaded = go (view x) (sym e ∙ h)
         where
-          go : (v : View) → proposeFrom v x s r .number ≡ 0 → Loaded ≡ stateOf v
+          go : (v : View) → proposeFrom v x s r .number ≡ 0 → Loaded ≡ viewState v
           go empty z = absurd (omega (arith, answer-number 21 x x))
           go (loaded p n t1 t2) z = refl
           go (paired p n t1 t2 u v) z = absurd (omega (arith, answer-number 24 x x))
@@ -85,7 +85,7 @@ module _ (x : Session) (s r : List ℕ) where
           rw (loaded-seen x Loaded is-loaded refl .0) (answer-accepts _ x _ z)
 
       pub degree-fits : x .n ≤ 16
-      degree-fits = whole-degree (x .p) (x .n) _ (loaded-seen x Loaded is-loaded refl .1)
+      degree-fits = valid-degree (x .p) (x .n) _ (loaded-seen x Loaded is-loaded refl .1)
 
       pub s-fits : length s ≤ 16
       s-fits = omega (arith, degree-fits, words-length (pair-words .0))

@@ -23,7 +23,7 @@ use Rattle.quotient.proofs.Refusal.{words-given, given-lengths, given-words}
 use Rattle.quotient.proofs.Words.{words-length, zeros-words}
 use Rattle.quotient.specs.Array.{padded}
 use Rattle.quotient.proofs.Padded.{take-padded}
-use Rattle.session.specs.Session.{View, empty, loaded, paired, whole, viewAs, view, newSession, loadedSession, pairedSession, answer, loadFrom, load, proposeFrom, propose, findFrom, find, convert, clear}
+use Rattle.session.specs.Session.{View, empty, loaded, paired, valid, viewAs, view, newSession, loadedSession, pairedSession, answer, loadFrom, load, proposeFrom, propose, findFrom, find, convert, clear}
 use Rattle.session.specs.Theorem.{Call, callLoad, callPropose, callFind, callForward, callBack, callClear, next, run, Reached, is-new, is-loaded, is-paired}
 use Rattle.session.specs.declared.Session.{Session}
 
@@ -37,7 +37,7 @@ held : {p n : ℕ} {u : List ℕ} → Words p n u → take n (padded u) ≡ u
 held {n = n} {u = u} w = take-padded n u (words-length w)
 
 pub view-loaded : {p n : ℕ} {t1 t2 : List ℕ} → Models p n t1 t2 → view (loadedSession p n t1 t2) ≡ loaded p n t1 t2
-unfolding view loadedSession viewAs whole
+unfolding view loadedSession viewAs valid
 view-loaded {p} {n} {t1} {t2} m =
     let lists : All (Words p n) (t1 ∷ t2 ∷ []) = (m .modulus1, (m .modulus2, tt)) in
     rw (
@@ -49,7 +49,7 @@ view-loaded {p} {n} {t1} {t2} m =
     )
 
 pub view-paired : {p n : ℕ} {t1 t2 s r : List ℕ} → Given p n t1 t2 s r → view (pairedSession p n t1 t2 s r) ≡ paired p n t1 t2 s r
-unfolding view pairedSession viewAs whole
+unfolding view pairedSession viewAs valid
 view-paired {p} {n} {t1} {t2} {s} {r} g =
     let lists : All (Words p n) (t1 ∷ t2 ∷ s ∷ r ∷ []) = (g .models .modulus1, (g .models .modulus2, (g .words-s, (g .words-r, tt)))) in
     rw (

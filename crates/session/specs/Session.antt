@@ -32,17 +32,17 @@ pub data View : Type 0 where
   paired : (p n : ℕ) (t1 t2 s r : List ℕ) → View
 
 -- what 1, 2 and 4 do not refuse
-unfoldable pub whole : ℕ → ℕ → List (List ℕ) → Bool
-whole p n xss = not (badPrime p) && not (badDegree n) && not (badWord p xss)
+unfoldable pub valid : ℕ → ℕ → List (List ℕ) → Bool
+valid p n xss = not (badPrime p) && not (badDegree n) && not (badWord p xss)
 
-abbrev pub ifWhole : Bool → View → View
-ifWhole true v = v
-ifWhole false v = empty
+abbrev pub ifValid : Bool → View → View
+ifValid true v = v
+ifValid false v = empty
 
 unfoldable pub viewAs : State → ℕ → ℕ → List ℕ → List ℕ → List ℕ → List ℕ → View
 viewAs Empty p n t1 t2 s r = empty
-viewAs Loaded p n t1 t2 s r = ifWhole (whole p n (t1 ∷ t2 ∷ [])) (loaded p n t1 t2)
-viewAs Paired p n t1 t2 s r = ifWhole (whole p n (t1 ∷ t2 ∷ s ∷ r ∷ [])) (paired p n t1 t2 s r)
+viewAs Loaded p n t1 t2 s r = ifValid (valid p n (t1 ∷ t2 ∷ [])) (loaded p n t1 t2)
+viewAs Paired p n t1 t2 s r = ifValid (valid p n (t1 ∷ t2 ∷ s ∷ r ∷ [])) (paired p n t1 t2 s r)
 
 unfoldable pub view : Session → View
 view x =

@@ -16,7 +16,7 @@ ghost use lib.ListN.{length, take};
 ghost use Rattle.quotient.specs.Residue.{Words};
 ghost use Rattle.quotient.specs.Array.{Holds, Square};
 ghost use Rattle.residue.specs.Matrix.{matrixProduct};
-ghost use Rattle.session.specs.Session.{view, whole, converted, tableNumber, convertNumber, convert as convertOf, forwardOutput, backOutput};
+ghost use Rattle.session.specs.Session.{view, valid, converted, tableNumber, convertNumber, convert as convertOf, forwardOutput, backOutput};
 
 // The image of a group of n words, by the matrix of the powers of S.
 fn convert_group(p: u64, n: usize, m: &[u64; 256], group: &[u16], out: &mut [u16])
@@ -60,7 +60,7 @@ fn convert_number(x: Session, table: &[u16], out: &[u16]) -> u32
 
 // The conversion where neither a session's p, n and words nor the table are refused: T and S are the first n words of the arrays.
 fn convert_words(p: u32, n: u32, t: [u16; 16], s: [u16; 16], table: &[u16], out: &mut [u16])
-    requires { ⌜ whole p n (take n t ∷ take n s ∷ []) ≡ true ⌝ }
+    requires { ⌜ valid p n (take n t ∷ take n s ∷ []) ≡ true ⌝ }
     requires { ⌜ tableNumber p n (now table) (now out) ≡ 0 ⌝ }
     ensures { λ _. ⌜ now (out .exit) ≡ converted p n (take n t) (take n s) (length (now (table .entry)) / n) (now (table .entry)) ⌝ }
 {

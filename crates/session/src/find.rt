@@ -9,7 +9,7 @@ ghost use mathlib.Core.Bool.{true};
 ghost use mathlib.Core.List.{[], _∷_};
 ghost use mathlib.Core.Path.{_≡_};
 ghost use lib.ListN.{take};
-ghost use Rattle.session.specs.Session.{loaded as loadedWith, whole, findFrom, find as findOf};
+ghost use Rattle.session.specs.Session.{loaded as loadedWith, valid, findFrom, find as findOf};
 
 // The answer in a session that counts as loaded with the first n words of T1 and T2, to which 1, 2 and 4 do not apply. The finder writes its pair
 // into s and r.
@@ -22,7 +22,7 @@ fn find_loaded(
     mut s: [u16; 16],
     mut r: [u16; 16],
 ) -> Step
-    requires { ⌜ whole p n (take n t1 ∷ take n t2 ∷ []) ≡ true ⌝ }
+    requires { ⌜ valid p n (take n t1 ∷ take n t2 ∷ []) ≡ true ⌝ }
     ensures { λ y. ⌜ y ≡ findFrom (loadedWith p n (take n t1) (take n t2)) x ⌝ }
 {
     let k = n as usize;

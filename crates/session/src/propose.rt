@@ -11,11 +11,11 @@ ghost use mathlib.Core.Path.{_≡_};
 ghost use lib.ListN.{take};
 ghost use Rattle.modular.specs.Refusal.{refuse, badLength, badWord};
 ghost use Rattle.pair.specs.Pair.{accepts};
-ghost use Rattle.session.specs.Session.{whole, propose as proposeOf};
+ghost use Rattle.session.specs.Session.{valid, propose as proposeOf};
 
 // 3, 4 and 8, of a pair for two models to which 1, 2 and 4 do not apply: the answer of the checker.
 fn pair_number(p: u32, n: u32, t1: [u16; 16], t2: [u16; 16], s: &[u16], r: &[u16]) -> u32
-    requires { ⌜ whole p n (take n t1 ∷ take n t2 ∷ []) ≡ true ⌝ }
+    requires { ⌜ valid p n (take n t1 ∷ take n t2 ∷ []) ≡ true ⌝ }
     ensures { λ k. ⌜ k ≡ refuse 3 (badLength n (now (s .entry) ∷ now (r .entry) ∷ [])) (refuse 4 (badWord p (now (s .entry) ∷ now (r .entry) ∷ [])) (refuse 8 (not (accepts p (take n t1) (take n t2) (now (s .entry)) (now (r .entry)))) 0)) ⌝ }
 {
     let k = n as usize;

@@ -6,12 +6,12 @@ use crate::refusal::size_number;
 ghost use mathlib.Core.List.{[], _∷_};
 ghost use mathlib.Core.Path.{_≡_};
 ghost use lib.ListN.{take};
-ghost use Rattle.session.specs.Kind.{stateOf};
-ghost use Rattle.session.specs.Session.{view, whole};
+ghost use Rattle.session.specs.ViewState.{viewState};
+ghost use Rattle.session.specs.Session.{view, valid};
 
 // Whether 1, 2 and 4 refuse neither p nor n nor a word of T1 and T2.
-fn models_whole(p: u32, n: u32, t1: [u16; 16], t2: [u16; 16]) -> bool
-    ensures { λ r. ⌜ r ≡ whole p n (take n t1 ∷ take n t2 ∷ []) ⌝ }
+fn models_valid(p: u32, n: u32, t1: [u16; 16], t2: [u16; 16]) -> bool
+    ensures { λ r. ⌜ r ≡ valid p n (take n t1 ∷ take n t2 ∷ []) ⌝ }
 {
     if size_number(p, n) != 0 {
         return false;
@@ -21,10 +21,10 @@ fn models_whole(p: u32, n: u32, t1: [u16; 16], t2: [u16; 16]) -> bool
 }
 
 // The same of S and R too.
-fn pair_whole(p: u32, n: u32, t1: [u16; 16], t2: [u16; 16], s: [u16; 16], r: [u16; 16]) -> bool
-    ensures { λ b. ⌜ b ≡ whole p n (take n t1 ∷ take n t2 ∷ take n s ∷ take n r ∷ []) ⌝ }
+fn pair_valid(p: u32, n: u32, t1: [u16; 16], t2: [u16; 16], s: [u16; 16], r: [u16; 16]) -> bool
+    ensures { λ b. ⌜ b ≡ valid p n (take n t1 ∷ take n t2 ∷ take n s ∷ take n r ∷ []) ⌝ }
 {
-    if !models_whole(p, n, t1, t2) {
+    if !models_valid(p, n, t1, t2) {
         return false;
     }
     let k = n as usize;
@@ -33,7 +33,7 @@ fn pair_whole(p: u32, n: u32, t1: [u16; 16], t2: [u16; 16], s: [u16; 16], r: [u1
 
 // The state of what a session counts as.
 pub fn counts_as(x: Session) -> State
-    ensures { λ r. ⌜ r ≡ stateOf (view x) ⌝ }
+    ensures { λ r. ⌜ r ≡ viewState (view x) ⌝ }
 {
     let state = x.state;
     let t1 = x.t1;
@@ -43,14 +43,14 @@ pub fn counts_as(x: Session) -> State
     match state {
         State::Empty => State::Empty,
         State::Loaded => {
-            if models_whole(x.p, x.n, t1, t2) {
+            if models_valid(x.p, x.n, t1, t2) {
                 State::Loaded
             } else {
                 State::Empty
             }
         }
         State::Paired => {
-            if pair_whole(x.p, x.n, t1, t2, s, r) {
+            if pair_valid(x.p, x.n, t1, t2, s, r) {
                 State::Paired
             } else {
                 State::Empty

@@ -1,7 +1,7 @@
 -- `find` meets its contract, by the state that the session counts as.
 use borrow.Author.Needs.{needs}
 use Rattle.session.proofs.Finding.{find-empty, find-loaded, find-paired}
-use Rattle.session.proofs.Seen.{loaded-whole}
+use Rattle.session.proofs.Seen.{loaded-valid}
 use Rattle.session.proofs.Session.find.Statement.{statement}
 use Rattle.session.proofs.Session.find.Tie as tie
 
@@ -15,7 +15,7 @@ enum-told-2 : tie.Need-enum-told-2
 enum-told-2 c = search needs
 
 find-loaded-requires : tie.Need-find-loaded-requires
-find-loaded-requires c κs = search loaded-whole
+find-loaded-requires c κs = search loaded-valid
 
 enum-told-3 : tie.Need-enum-told-3
 enum-told-3 c = search needs

@@ -5,7 +5,7 @@ use mathlib.Core.List.{[]}
 use Prim.Native.Nat.{_≤_}
 use lib.ListN.{take}
 use Rattle.session.proofs.Finding.{Found, found, find-refused, s-fits, r-fits, find-pairs}
-use Rattle.session.proofs.Whole.{prefix-length, prefix-short, whole-degree}
+use Rattle.session.proofs.Valid.{prefix-length, prefix-short, valid-degree}
 use Rattle.session.proofs.find.find_loaded.Statement.{statement}
 use Rattle.session.proofs.find.find_loaded.Tie as tie
 
@@ -33,25 +33,25 @@ pair c =
     (call .ensures .1 .1)
 
 array-share-prefix-t1 : tie.Need-array-share-prefix-t1
-array-share-prefix-t1 c = let h : c .args .n ≤ 16 = search whole-degree in omega arith
+array-share-prefix-t1 c = let h : c .args .n ≤ 16 = search valid-degree in omega arith
 
 slice-aggregate-find : tie.Need-slice-aggregate-find
 slice-aggregate-find c = prefix-length _ (c .before .args .t4) (array-share-prefix-t1 (c .before))
 
 array-share-prefix-t2 : tie.Need-array-share-prefix-t2
-array-share-prefix-t2 c = let h : c .before .args .n ≤ 16 = search whole-degree in omega arith
+array-share-prefix-t2 c = let h : c .before .args .n ≤ 16 = search valid-degree in omega arith
 
 slice-aggregate-find-2 : tie.Need-slice-aggregate-find-2
 slice-aggregate-find-2 c = prefix-length _ (c .before .before .args .t5) (array-share-prefix-t2 (c .before))
 
 array-borrow-prefix-s : tie.Need-array-borrow-prefix-s
-array-borrow-prefix-s c = let h : c .before .before .args .n ≤ 16 = search whole-degree in omega arith
+array-borrow-prefix-s c = let h : c .before .before .args .n ≤ 16 = search valid-degree in omega arith
 
 slice-aggregate-find-3 : tie.Need-slice-aggregate-find-3
 slice-aggregate-find-3 c = prefix-length _ (c .before .before .before .args .t6) (array-borrow-prefix-s (c .before))
 
 array-borrow-prefix-r : tie.Need-array-borrow-prefix-r
-array-borrow-prefix-r c = let h : c .before .before .before .args .n ≤ 16 = search whole-degree in omega arith
+array-borrow-prefix-r c = let h : c .before .before .before .args .n ≤ 16 = search valid-degree in omega arith
 
 slice-aggregate-find-4 : tie.Need-slice-aggregate-find-4
 slice-aggregate-find-4 c = prefix-length _ (c .before .before .before .before .args .t7) (array-borrow-prefix-r (c .before))
@@ -75,7 +75,7 @@ slice-aggregate-paired-2 : tie.Need-slice-aggregate-paired-2
 slice-aggregate-paired-2 c = prefix-length _ _ (array-share-prefix-r (c .before))
 
 paired-requires : tie.Need-paired-requires
-paired-requires c κs = (search whole-degree, search (prefix-short, whole-degree), search (prefix-short, whole-degree))
+paired-requires c κs = (search valid-degree, search (prefix-short, valid-degree), search (prefix-short, valid-degree))
 
 returns-2 : tie.Need-returns-2
 returns-2 c = find-pairs (pair (c .before .before .before)) _ _ _ _ (c .paired .ensures)

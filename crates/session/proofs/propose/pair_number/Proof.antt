@@ -3,18 +3,18 @@ use native.Mathlib.Omega.{arith}
 use borrow.Author.Needs.{needs}
 use Prim.Native.Nat.{_≤_}
 use Rattle.session.proofs.Proposing.{checks-pair}
-use Rattle.session.proofs.Whole.{prefix-length, whole-degree}
+use Rattle.session.proofs.Valid.{prefix-length, valid-degree}
 use Rattle.session.proofs.propose.pair_number.Statement.{statement}
 use Rattle.session.proofs.propose.pair_number.Tie as tie
 
 array-share-prefix-t1 : tie.Need-array-share-prefix-t1
-array-share-prefix-t1 c = let h : c .before .before .args .n ≤ 16 = search whole-degree in omega arith
+array-share-prefix-t1 c = let h : c .before .before .args .n ≤ 16 = search valid-degree in omega arith
 
 slice-aggregate-check : tie.Need-slice-aggregate-check
 slice-aggregate-check c = prefix-length _ (c .before .before .before .args .t3) (array-share-prefix-t1 (c .before))
 
 array-share-prefix-t2 : tie.Need-array-share-prefix-t2
-array-share-prefix-t2 c = let h : c .before .before .before .args .n ≤ 16 = search whole-degree in omega arith
+array-share-prefix-t2 c = let h : c .before .before .before .args .n ≤ 16 = search valid-degree in omega arith
 
 slice-aggregate-check-2 : tie.Need-slice-aggregate-check-2
 slice-aggregate-check-2 c = prefix-length _ (c .before .before .before .before .args .t4) (array-share-prefix-t2 (c .before))

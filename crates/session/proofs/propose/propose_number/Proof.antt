@@ -1,7 +1,7 @@
 -- `propose_number` meets its contract, by the state that the session counts as.
 use borrow.Author.Needs.{needs}
 use Rattle.session.proofs.Proposing.{propose-empty, propose-loaded, propose-paired}
-use Rattle.session.proofs.Seen.{loaded-whole}
+use Rattle.session.proofs.Seen.{loaded-valid}
 use Rattle.session.proofs.propose.propose_number.Statement.{statement}
 use Rattle.session.proofs.propose.propose_number.Tie as tie
 
@@ -15,7 +15,7 @@ enum-told-2 : tie.Need-enum-told-2
 enum-told-2 c = search needs
 
 pair-number-requires : tie.Need-pair-number-requires
-pair-number-requires c κs = search loaded-whole
+pair-number-requires c κs = search loaded-valid
 
 enum-told-3 : tie.Need-enum-told-3
 enum-told-3 c = search needs

@@ -1,7 +1,7 @@
 -- `paired` meets its contract: each array holds its list.
 use borrow.Author.Needs.{needs}
 use Rattle.session.proofs.Values.{paired-is}
-use Rattle.session.proofs.Whole.{prefix-length, prefix-short}
+use Rattle.session.proofs.Valid.{prefix-length, prefix-short}
 use Rattle.session.proofs.value.paired.Statement.{statement}
 use Rattle.session.proofs.value.paired.Tie as tie
 

@@ -10,14 +10,14 @@ enum-told c = search needs
 enum-told-2 : tie.Need-enum-told-2
 enum-told-2 c = search needs
 
-models-whole-requires : tie.Need-models-whole-requires
-models-whole-requires c κs = search needs
+models-valid-requires : tie.Need-models-valid-requires
+models-valid-requires c κs = search needs
 
 enum-told-3 : tie.Need-enum-told-3
 enum-told-3 c = search needs
 
-pair-whole-requires : tie.Need-pair-whole-requires
-pair-whole-requires c κs = search needs
+pair-valid-requires : tie.Need-pair-valid-requires
+pair-valid-requires c κs = search needs
 
 returns : tie.Need-returns
 returns c = search counts-empty
@@ -40,9 +40,9 @@ counts-as-spec =
     (tie.spec
     enum-told
     enum-told-2
-    models-whole-requires
+    models-valid-requires
     enum-told-3
-    pair-whole-requires
+    pair-valid-requires
     returns
     returns-2
     returns-3

@@ -1,5 +1,5 @@
 -- What 1, 2 and 4 do not refuse: p is a prime up to 65,535, n is 1 to 16, and the first n words of arrays are lists of n words below p.
---   whole-given, whole-size          none of the three conditions applies; the bounds of p and n
+--   valid-given, valid-size          none of the three conditions applies; the bounds of p and n
 --   front-words                      the first n words of two arrays are residues
 --   lengths-after, words-after       two lists that 3 or 4 does not refuse add no refusal to the lists after them
 use mathlib.Core.Path.{_≡_, sym}
@@ -16,23 +16,23 @@ use Rattle.modular.specs.Refusal.{badPrime, badDegree, badLength, badWord, allB
 use Rattle.quotient.specs.Residue.{Words}
 use Rattle.modular.proofs.Refusal.{prime-given, degree-given}
 use Rattle.quotient.proofs.Refusal.{words-given}
-use Rattle.session.specs.Session.{whole}
+use Rattle.session.specs.Session.{valid}
 
-module _ (p n : ℕ) (xss : List (List ℕ)) (h : whole p n xss ≡ true) where
-  pub whole-given : (badPrime p ≡ false) × (badDegree n ≡ false) × (badWord p xss ≡ false)
-  unfolding whole
-  whole-given =
+module _ (p n : ℕ) (xss : List (List ℕ)) (h : valid p n xss ≡ true) where
+  pub valid-given : (badPrime p ≡ false) × (badDegree n ≡ false) × (badWord p xss ≡ false)
+  unfolding valid
+  valid-given =
       let (size, words) = and-eq-true-iff (not (badPrime p) && not (badDegree n)) (not (badWord p xss)) .0 h in
       let (prime, degree) = and-eq-true-iff (not (badPrime p)) (not (badDegree n)) .0 size in
       (not-true (badPrime p) prime, not-true (badDegree n) degree, not-true (badWord p xss) words)
 
-  pub whole-degree : n ≤ 16
-  whole-degree = degree-given n (whole-given .1) .1
+  pub valid-degree : n ≤ 16
+  valid-degree = degree-given n (valid-given .1) .1
 
-  pub whole-size : (2 ≤ p) × (p ≤ 2 ^ 16) × (1 ≤ n) × (n ≤ 16)
-  whole-size =
-      let (is-prime, small) = prime-given p (whole-given .0) in
-      (is-prime .0, omega arith, degree-given n (whole-given .1) .0, whole-degree)
+  pub valid-size : (2 ≤ p) × (p ≤ 2 ^ 16) × (1 ≤ n) × (n ≤ 16)
+  valid-size =
+      let (is-prime, small) = prime-given p (valid-given .0) in
+      (is-prime .0, omega arith, degree-given n (valid-given .1) .0, valid-degree)
 
 -- the first words of an array
 
@@ -49,11 +49,11 @@ pub front-lengths : (n : ℕ) (xs ys : List ℕ) → n ≤ 16 → length xs ≡ 
 unfolding badLength all
 front-lengths n xs ys h l m = rw (eq-eqb (length (take n xs)) n (front-length n xs h l), eq-eqb (length (take n ys)) n (front-length n ys h m))
 
-pub front-words : (p n : ℕ) (xs ys : List ℕ) → length xs ≡ 16 → length ys ≡ 16 → whole p n (take n xs ∷ take n ys ∷ []) ≡ true
+pub front-words : (p n : ℕ) (xs ys : List ℕ) → length xs ≡ 16 → length ys ≡ 16 → valid p n (take n xs ∷ take n ys ∷ []) ≡ true
     → Words p n (take n xs) × Words p n (take n ys)
 front-words p n xs ys l m h =
     let xss = take n xs ∷ take n ys ∷ [] in
-    let words = words-given p n xss (front-lengths n xs ys (whole-degree p n xss h) l m) (whole-given p n xss h .2) in
+    let words = words-given p n xss (front-lengths n xs ys (valid-degree p n xss h) l m) (valid-given p n xss h .2) in
     (words .0, words .1 .0)
 
 -- lists after two that pass a test

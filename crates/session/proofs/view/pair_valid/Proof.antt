@@ -1,14 +1,14 @@
--- `pair_whole` meets its contract: where nothing of the models is refused, the words of S and R decide.
+-- `pair_valid` meets its contract: where nothing of the models is refused, the words of S and R decide.
 use native.Mathlib.Omega.{arith}
 use borrow.Author.Needs.{needs}
 use Prim.Native.Nat.{_≤_}
 use Rattle.session.proofs.Counts.{models-fail, models-degree, pair-decided}
-use Rattle.session.proofs.Whole.{prefix-length}
-use Rattle.session.proofs.view.pair_whole.Statement.{statement}
-use Rattle.session.proofs.view.pair_whole.Tie as tie
+use Rattle.session.proofs.Valid.{prefix-length}
+use Rattle.session.proofs.view.pair_valid.Statement.{statement}
+use Rattle.session.proofs.view.pair_valid.Tie as tie
 
-models-whole-requires : tie.Need-models-whole-requires
-models-whole-requires c κs = search needs
+models-valid-requires : tie.Need-models-valid-requires
+models-valid-requires c κs = search needs
 
 returns : tie.Need-returns
 returns c = search models-fail
@@ -31,11 +31,11 @@ both-below-requires c κs = search needs
 returns-2 : tie.Need-returns-2
 returns-2 c = search pair-decided
 
-pub pair-whole-spec : {M : Type 1} → statement M
-pair-whole-spec =
+pub pair-valid-spec : {M : Type 1} → statement M
+pair-valid-spec =
     tie.close
     (tie.spec
-    models-whole-requires
+    models-valid-requires
     returns
     array-share-prefix-s
     slice-aggregate-both-below

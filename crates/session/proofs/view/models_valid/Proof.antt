@@ -1,11 +1,11 @@
--- `models_whole` meets its contract: where 1 and 2 do not apply, the words decide.
+-- `models_valid` meets its contract: where 1 and 2 do not apply, the words decide.
 use native.Mathlib.Omega.{arith}
 use borrow.Author.Needs.{needs}
 use Prim.Native.Nat.{_≤_}
 use Rattle.session.proofs.Counts.{size-fails, size-degree, models-decided}
-use Rattle.session.proofs.Whole.{prefix-length}
-use Rattle.session.proofs.view.models_whole.Statement.{statement}
-use Rattle.session.proofs.view.models_whole.Tie as tie
+use Rattle.session.proofs.Valid.{prefix-length}
+use Rattle.session.proofs.view.models_valid.Statement.{statement}
+use Rattle.session.proofs.view.models_valid.Tie as tie
 
 size-number-requires : tie.Need-size-number-requires
 size-number-requires c κs = search needs
@@ -31,8 +31,8 @@ both-below-requires c κs = search needs
 returns-2 : tie.Need-returns-2
 returns-2 c = search models-decided
 
-pub models-whole-spec : {M : Type 1} → statement M
-models-whole-spec =
+pub models-valid-spec : {M : Type 1} → statement M
+models-valid-spec =
     tie.close
     (tie.spec
     size-number-requires
