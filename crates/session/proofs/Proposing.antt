@@ -96,3 +96,6 @@ module _ (x : Session) (s r : List ℕ) where
       pub propose-pairs : (y : Session) → y ≡ pairedSession (x .p) (x .n) (take (x .n) (x .t1)) (take (x .n) (x .t2)) s r
           → record { number = 0; session = y } ≡ propose x s r
       propose-pairs y f = step-path (sym h ∙ e) (f ∙ sym session-is)
+
+-- a pair that is not refused has n words in each list
+pub ruleset pair-fits = (s-fits, r-fits)

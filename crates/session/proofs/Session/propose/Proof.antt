@@ -1,6 +1,6 @@
 -- `propose` meets its contract: a refusal gives the session back, and where the number is 0 S and R have n words.
 use borrow.Author.Needs.{needs}
-use Rattle.session.proofs.Proposing.{propose-refused, degree-fits, s-fits, r-fits, propose-pairs}
+use Rattle.session.proofs.Proposing.{propose-refused, degree-fits, pair-fits, propose-pairs}
 use Rattle.session.proofs.Session.propose.Statement.{statement}
 use Rattle.session.proofs.Session.propose.Tie as tie
 
@@ -11,7 +11,7 @@ returns : tie.Need-returns
 returns c = search propose-refused
 
 paired-requires : tie.Need-paired-requires
-paired-requires c κs = (search degree-fits, search s-fits, search r-fits)
+paired-requires c κs = (search degree-fits, search pair-fits, search pair-fits)
 
 returns-2 : tie.Need-returns-2
 returns-2 c = search propose-pairs
