@@ -1,4 +1,5 @@
--- A refused call gives back the session it took, and a lent list holds what it held: the answer and the list go by the number alone.
+-- A refused call gives back the session it took, and a lent list holds what it held: the answer and the list go by the number alone. A
+-- conversion gives back the session in any case.
 use mathlib.Core.Path.{_≡_, refl, ap}
 use mathlib.Core.List.{List}
 use Prim.Native.Nat.{ℕ}
