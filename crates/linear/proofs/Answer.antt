@@ -15,7 +15,7 @@ use Rattle.quotient.specs.Array.{rowProduct, Holds, Square}
 use Rattle.quotient.proofs.Words.{words-length, words-same, zeros-words}
 use Rattle.quotient.proofs.Padded.{array-length, words-at, holds-word}
 use Rattle.linear.specs.System.{Solves, Regular, Singular, Outcome}
-use Rattle.linear.specs.Elimination.{Modulus, Identity, Reduced, SolvesTimes, Equivalent, Advanced, Pivot}
+use Rattle.linear.specs.Elimination.{Reduction, Identity, Reduced, SolvesTimes, Equivalent, Advanced, Pivot}
 
 nothing : (x : ℕ) → 0 * x ≡ 0
 nothing x = omega arith
@@ -73,8 +73,8 @@ singular-back p n m b m' b' w E l S =
       solves = λ i h. E .back 0 w l (λ j g. S .solves j g ∙ ap (λ z. z % p) (sym (nothing (getD b' j 0)))) i h ∙ ap (λ z. z % p) (nothing (getD b i 0));
     }
 
-pub modulus-of : (p : ℕ) → 2 ≤ p → p ≤ 1048576 → Modulus p (4398046511104 / p)
-modulus-of p h l = record { positive = omega arith; small = l; reciprocal = refl }
+pub reduction-of : (p : ℕ) → 2 ≤ p → p ≤ 1048576 → Reduction p (4398046511104 / p)
+reduction-of p h l = record { positive = omega arith; small = l; reciprocal = refl }
 
 -- The walk over the columns: its start, a turn, and its two ends.
 pub walk-start : (p n : ℕ) (m b : List ℕ) → n ≤ 16 → Square p n m → Holds p n b → Advanced p n 0 m b m b

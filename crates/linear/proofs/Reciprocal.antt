@@ -8,7 +8,7 @@ use Prim.Native.Nat.{ℕ, _+_, _-_, _*_, _/_, _%_, _^_, _≤_, _<_}
 use native.Mathlib.Nat.{mul-le-mul, mul-le-mul-left, mul-le-mul-right, div-mul-le-self, lt-div-mul-add}
 use native.Mathlib.Omega.{arith}
 use lib.Arith.{digits-mod}
-use Rattle.linear.specs.Elimination.{Modulus}
+use Rattle.linear.specs.Elimination.{Reduction}
 
 -- f·g ≤ p·(p − 1), and e ≤ p.
 pub sum-below : (p e f g : ℕ) → e < p → f ≤ p → g < p → e + f * g ≤ p * p
@@ -20,7 +20,7 @@ sum-below p e f g he hf hg =
 pub square-small : (p : ℕ) → p ≤ 1048576 → p * p ≤ 1048576 * 1048576
 square-small p h = mul-le-mul h h
 
-module _ (p u x : ℕ) (M : Modulus p u) (h : x ≤ p * p) where
+module _ (p u x : ℕ) (M : Reduction p u) (h : x ≤ p * p) where
   reciprocal-below : u * p ≤ 4398046511104
   reciprocal-below = rw (M .reciprocal) (div-mul-le-self 4398046511104 p)
 

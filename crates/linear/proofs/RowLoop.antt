@@ -8,7 +8,7 @@ use lib.ListN.{getD, set}
 use Rattle.algebra.proofs.Modulo.{mod-mul-mod}
 use Rattle.linear.proofs.Write.{Written, written-turn, written-next}
 use Rattle.quotient.specs.Array.{entry}
-use Rattle.linear.specs.Elimination.{Modulus, Reduced, RowStep}
+use Rattle.linear.specs.Elimination.{Reduction, Reduced, RowStep}
 use Rattle.linear.proofs.RowStep.{added, scaled, added-step, scaled-step}
 
 -- What the loops over the columns read is below p.
@@ -26,7 +26,7 @@ added-turn p f n c x y k w m m' W small hx hk e =
     let same = written-next (added p f m x y) x c k m m' W (omega arith) in
     written-turn (added p f m x y) x c k w m m' W (omega arith) (e ∙ ap₂ (λ s t. (s + f * t) % p) (same x) (same y))
 
-pub added-end : (p u f n c x y k w : ℕ) (m b m' : List ℕ) → Modulus p u → n ≤ 16 → c < n → x < n → y < n → c ≤ y → (x ≡ y → ⊥) → Reduced p n c m b
+pub added-end : (p u f n c x y k w : ℕ) (m b m' : List ℕ) → Reduction p u → n ≤ 16 → c < n → x < n → y < n → c ≤ y → (x ≡ y → ⊥) → Reduced p n c m b
     → k ≤ n → n ≤ k → Written (added p f m x y) x c k m m' → w ≡ (getD b x 0 + f * getD b y 0) % p
     → RowStep p n c x ((entry m x c + f * entry m y c) % p) m b m' (set b x w)
 added-end p u f n c x y k w m b m' M small column row row' from differ R l g W e =
@@ -40,11 +40,11 @@ scaled-turn p a n c k w m m' W small hc hk e =
     let same = written-next (scaled p a m c) c c k m m' W (omega arith) in
     written-turn (scaled p a m c) c c k w m m' W (omega arith) (e ∙ ap (λ s. (0 + a * s) % p) (same c) ∙ ap (λ s. s % p) (omega arith))
 
-pub scaled-end : (p u z n c k w : ℕ) (m b m' : List ℕ) → Modulus p u → n ≤ 16 → c < n → (z * entry m c c) % p ≡ 1 → Reduced p n c m b
+pub scaled-end : (p u z n c k w : ℕ) (m b m' : List ℕ) → Reduction p u → n ≤ 16 → c < n → (z * entry m c c) % p ≡ 1 → Reduced p n c m b
     → k ≤ n → n ≤ k → Written (scaled p (z % p) m c) c c k m m' → w ≡ (0 + z % p * getD b c 0) % p → RowStep p n c c 1 m b m' (set b c w)
 scaled-end p u z n c k w m b m' M small column inverse R l g W e =
     let W' : Written (scaled p (z % p) m c) c c n m m' = subst (λ q. Written (scaled p (z % p) m c) c c q m m') (omega arith) W in
     scaled-step p (z % p) n c w m b m' W' (M .positive) small column (mod-mul-mod z p (entry m c c) ∙ inverse) R e
 
-pub remainder-small : (p u x : ℕ) → Modulus p u → x % p ≤ p
+pub remainder-small : (p u x : ℕ) → Reduction p u → x % p ≤ p
 remainder-small p u x M = omega (arith, mod-lt x (M .positive))

@@ -1,5 +1,5 @@
 -- Gauss–Jordan elimination, column by column. A row operation changes neither the solutions of M·v = b nor those of M·v = 0.
---   Modulus p u                  0 < p ≤ 2^20, and u is the whole part of 2^42 / p, by which words are reduced modulo p
+--   Reduction p u                0 < p ≤ 2^20, and u is the whole part of 2^42 / p, by which words are reduced modulo p
 --   Identity p n c m             the first c columns are those of the identity
 --   Reduced p n c m b            the same of the system M·v = b; its words are below p, and b is 0 past n
 --   SolvesTimes p n m t b v      M·v = t·b modulo p; the system itself is t = 1, and t = 0 is M·v = 0
@@ -14,7 +14,7 @@ use Prim.Native.Nat.{ℕ, _*_, _/_, _%_, _≤_, _<_}
 use lib.ListN.{length, getD}
 use Rattle.quotient.specs.Array.{entry, rowProduct, Square}
 
-pub record Modulus (p u : ℕ) : Type 0 where
+pub record Reduction (p u : ℕ) : Type 0 where
   pub positive : 0 < p
   pub small : p ≤ 1048576
   pub reciprocal : u ≡ 4398046511104 / p

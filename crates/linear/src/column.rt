@@ -3,7 +3,7 @@ ghost use mathlib.Core.Path.{_≡_};
 ghost use Prim.Native.Nat.{_+_, _≤_, _<_};
 ghost use Rattle.algebra.specs.Prime.{Prime};
 ghost use Rattle.quotient.specs.Array.{entry};
-ghost use Rattle.linear.specs.Elimination.{Modulus, Reduced, Advanced, Prepared, Pivot};
+ghost use Rattle.linear.specs.Elimination.{Reduction, Reduced, Advanced, Prepared, Pivot};
 use crate::row::add_multiple;
 use crate::row::scale;
 use modular::word::inverse;
@@ -25,7 +25,7 @@ pub fn find_pivot(n: usize, c: usize, m: &[u64; 256]) -> usize
 
 // Adds row r, which has the pivot, to row c, unless it is row c. Before that the word of row c is 0 in column c, so it is not 0 afterwards.
 fn bring(p: u64, u: u64, n: usize, c: usize, r: usize, m: &mut [u64; 256], b: &mut [u64; 16])
-    requires { ⌜ Modulus p u ⌝ }
+    requires { ⌜ Reduction p u ⌝ }
     requires { ⌜ (n ≤ 16) × (c < n) × (r < n) ⌝ }
     requires { ⌜ Reduced p n c (now m) (now b) ⌝ }
     requires { ⌜ Pivot n c (now m) r ⌝ }
@@ -38,7 +38,7 @@ fn bring(p: u64, u: u64, n: usize, c: usize, r: usize, m: &mut [u64; 256], b: &m
 
 // Subtracts multiples of row c, which has 1 in column c, from all other rows, so that column c becomes that of the identity.
 fn clear(p: u64, u: u64, n: usize, c: usize, m: &mut [u64; 256], b: &mut [u64; 16])
-    requires { ⌜ Modulus p u ⌝ }
+    requires { ⌜ Reduction p u ⌝ }
     requires { ⌜ (n ≤ 16) × (c < n) × (entry (now m) c c ≡ 1) ⌝ }
     requires { ⌜ Reduced p n c (now m) (now b) ⌝ }
     ensures { λ _. ⌜ Advanced p n (c + 1) (now (m .entry)) (now (b .entry)) (now (m .exit)) (now (b .exit)) ⌝ }
@@ -64,7 +64,7 @@ pub fn eliminate(
     b: &mut [u64; 16],
 )
     requires { ⌜ Prime p ⌝ }
-    requires { ⌜ Modulus p u ⌝ }
+    requires { ⌜ Reduction p u ⌝ }
     requires { ⌜ (n ≤ 16) × (c < n) × (r < n) ⌝ }
     requires { ⌜ Reduced p n c (now m) (now b) ⌝ }
     requires { ⌜ Pivot n c (now m) r ⌝ }

@@ -2,11 +2,11 @@
 ghost use mathlib.Core.Path.{_≡_};
 ghost use Prim.Native.Nat.{_+_, _*_, _%_, _≤_, _<_};
 ghost use Rattle.quotient.specs.Array.{entry};
-ghost use Rattle.linear.specs.Elimination.{Modulus, Reduced, RowStep};
+ghost use Rattle.linear.specs.Elimination.{Reduction, Reduced, RowStep};
 
 // x modulo p, by the reciprocal u of p: x·u / 2^42 is the quotient or one less.
 fn reduce(p: u64, u: u64, x: u64) -> u64
-    requires { ⌜ Modulus p u ⌝ }
+    requires { ⌜ Reduction p u ⌝ }
     requires { ⌜ x ≤ p * p ⌝ }
     ensures { λ r. ⌜ (r ≡ x % p) × (r < p) ⌝ }
 {
@@ -17,7 +17,7 @@ fn reduce(p: u64, u: u64, x: u64) -> u64
 
 // e + f·g modulo p.
 fn plus_product(p: u64, u: u64, e: u64, f: u64, g: u64) -> u64
-    requires { ⌜ Modulus p u ⌝ }
+    requires { ⌜ Reduction p u ⌝ }
     requires { ⌜ (e < p) × (f ≤ p) × (g < p) ⌝ }
     ensures { λ r. ⌜ (r ≡ (e + f * g) % p) × (r < p) ⌝ }
 {
@@ -36,7 +36,7 @@ pub fn add_multiple(
     m: &mut [u64; 256],
     b: &mut [u64; 16],
 )
-    requires { ⌜ Modulus p u ⌝ }
+    requires { ⌜ Reduction p u ⌝ }
     requires { ⌜ (n ≤ 16) × (c < n) × (x < n) × (y < n) × (c ≤ y) × (f ≤ p) × (x ≡ y → ⊥) ⌝ }
     requires { ⌜ Reduced p n c (now m) (now b) ⌝ }
     ensures { λ _. ⌜ RowStep p n c x ((entry (now (m .entry)) x c + f * entry (now (m .entry)) y c) % p) (now (m .entry)) (now (b .entry)) (now (m .exit)) (now (b .exit)) ⌝ }
@@ -60,7 +60,7 @@ pub fn scale(
     m: &mut [u64; 256],
     b: &mut [u64; 16],
 )
-    requires { ⌜ Modulus p u ⌝ }
+    requires { ⌜ Reduction p u ⌝ }
     requires { ⌜ (n ≤ 16) × (c < n) × ((inverse * entry (now m) c c) % p ≡ 1) ⌝ }
     requires { ⌜ Reduced p n c (now m) (now b) ⌝ }
     ensures { λ _. ⌜ RowStep p n c c 1 (now (m .entry)) (now (b .entry)) (now (m .exit)) (now (b .exit)) ⌝ }

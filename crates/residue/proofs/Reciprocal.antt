@@ -6,7 +6,7 @@ use native.Mathlib.Nat as Nat
 use native.Mathlib.Omega.{arith}
 use mir.Syntax.{w64}
 use mir.Val.{Fits}
-use Rattle.residue.specs.Delayed.{Modulus}
+use Rattle.residue.specs.Delayed.{Reduction}
 
 -- the three roundings as inequalities, each multiplied out
 quotient-bounds : (m r x h d : ℕ) → 2 ^ 19 ≤ m → h * 2 ^ 19 ≤ x → x < h * 2 ^ 19 + 2 ^ 19 → h ≤ 2 ^ 28 → m * r ≤ 2 ^ 54 → 2 ^ 54 ≤ m * r + m
@@ -79,8 +79,8 @@ module _ (p k : ℕ) (big : 2 ≤ p) (small : p ≤ 2 ^ 20) (e : k ≡ 2 ^ 20 / 
   pub multiple-fits : Fits w64 (p * k)
   multiple-fits = omega (arith, multiple-high)
 
-  pub modulus-of : Modulus p k (2 ^ 54 / (p * k))
-  modulus-of = record { big = big; small = small; multiplier = e; reciprocal = refl }
+  pub reduction-of : Reduction p k (2 ^ 54 / (p * k))
+  reduction-of = record { big = big; small = small; multiplier = e; reciprocal = refl }
 
   module _ (x r : ℕ) (l : r < 3 * (p * k)) (h : r % (p * k) ≡ x % (p * k)) where
     pub remainder-is : r % p ≡ x % p

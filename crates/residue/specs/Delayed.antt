@@ -1,5 +1,5 @@
 -- Words whose reduction modulo p is put off, inside the product of two residues.
---   Modulus p k r        2 ≤ p ≤ 2^20, p·k is the largest multiple of p up to 2^20, and r the whole part of 2^54 / (p·k), by which words are reduced
+--   Reduction p k r      2 ≤ p ≤ 2^20, p·k is the largest multiple of p up to 2^20, and r the whole part of 2^54 / (p·k), by which words are reduced
 --   reduced p u          each word of u modulo p
 --   Delayed p n k s xs   the array xs holds n words that are s modulo p, each at most k·2^42, and zeros after them
 --   Stepped p n t c v xs ys   the array ys holds X·xs + c·v modulo T, and the bound on its words has grown by 2^42
@@ -11,7 +11,7 @@ use Rattle.algebra.specs.Lists.{All}
 use Rattle.quotient.specs.Residue.{sum, scale, timesX}
 use Rattle.quotient.specs.Array.{padded}
 
-pub record Modulus (p k r : ℕ) : Type 0 where
+pub record Reduction (p k r : ℕ) : Type 0 where
   pub big : 2 ≤ p
   pub small : p ≤ 2 ^ 20
   pub multiplier : k ≡ 2 ^ 20 / p

@@ -2,7 +2,7 @@
 // through its reciprocal 2^54 / m.
 ghost use mathlib.Core.Path.{_≡_};
 ghost use Prim.Native.Nat.{_+_, _*_, _/_, _%_, _^_, _≤_, _<_};
-ghost use Rattle.residue.specs.Delayed.{Modulus};
+ghost use Rattle.residue.specs.Delayed.{Reduction};
 
 // The k of m = p·k.
 pub fn multiplier(p: u64) -> u64
@@ -15,7 +15,7 @@ pub fn multiplier(p: u64) -> u64
 // The reciprocal of m = p·k.
 pub fn reciprocal(p: u64, k: u64) -> u64
     requires { ⌜ (2 ≤ p) × (p ≤ 2 ^ 20) × (k ≡ 2 ^ 20 / p) ⌝ }
-    ensures { λ r. ⌜ Modulus p k r ⌝ }
+    ensures { λ r. ⌜ Reduction p k r ⌝ }
 {
     18014398509481984 / (p * k)
 }
@@ -38,7 +38,7 @@ fn rest(m: u64, r: u64, x: u64) -> u64
 
 // A number q with q + x = 0 modulo p.
 pub fn opposite(p: u64, k: u64, r: u64, x: u64) -> u64
-    requires { ⌜ Modulus p k r × (x ≤ 2 ^ 47) ⌝ }
+    requires { ⌜ Reduction p k r × (x ≤ 2 ^ 47) ⌝ }
     ensures { λ q. ⌜ (q ≤ 3 * 2 ^ 20) × ((q + x) % p ≡ 0) ⌝ }
 {
     let m = p * k;
@@ -47,7 +47,7 @@ pub fn opposite(p: u64, k: u64, r: u64, x: u64) -> u64
 
 // x modulo p.
 pub fn remainder(p: u64, k: u64, r: u64, x: u64) -> u64
-    requires { ⌜ Modulus p k r × (x ≤ 2 ^ 47) ⌝ }
+    requires { ⌜ Reduction p k r × (x ≤ 2 ^ 47) ⌝ }
     ensures { λ y. ⌜ y ≡ x % p ⌝ }
 {
     rest(p * k, r, x) % p

@@ -4,7 +4,7 @@ ghost use mathlib.Core.Path.{_≡_};
 ghost use Prim.Native.Nat.{_%_, _^_, _≤_, _<_};
 ghost use lib.ListN.{length, take};
 ghost use Rattle.quotient.specs.Array.{padded, Holds, Square, rowProduct};
-ghost use Rattle.residue.specs.Delayed.{Modulus};
+ghost use Rattle.residue.specs.Delayed.{Reduction};
 ghost use Rattle.residue.specs.Matrix.{Powers, Placed, matrixProduct, column as columnOf};
 use crate::delayed::multiplier;
 use crate::delayed::reciprocal;
@@ -25,7 +25,7 @@ fn place(n: usize, j: usize, u: &[u64; 16], m: &mut [u64; 256])
 
 // The powers S, …, S^(n−1), by n − 2 products, into a matrix whose column 0 is 1.
 fn higher_powers(p: u64, k: u64, r: u64, n: usize, t: &[u64; 16], s: &[u64; 16], m: &mut [u64; 256])
-    requires { ⌜ Modulus p k r × (2 ≤ n) × (n ≤ 16) ⌝ }
+    requires { ⌜ Reduction p k r × (2 ≤ n) × (n ≤ 16) ⌝ }
     requires { ⌜ Holds p n (now t) × Holds p n (now s) ⌝ }
     requires { ⌜ Powers p 1 (take n (now t)) (take n (now s)) (now m) ⌝ }
     ensures { λ _. ⌜ Powers p n (take n (now (t .entry))) (take n (now (s .entry))) (now (m .exit)) ⌝ }

@@ -1,5 +1,5 @@
 // The ring of residues modulo T, on arrays of 16 words: n words below p, and zeros after them. The functions that reduce words take the three
-// numbers that this needs, `Modulus p k r`; the calls for other modules work them out once.
+// numbers that this needs, `Reduction p k r`; the calls for other modules work them out once.
 use crate::delayed::multiplier;
 use crate::delayed::opposite;
 use crate::delayed::reciprocal;
@@ -10,7 +10,7 @@ ghost use Prim.Native.Nat.{_+_, _-_, _*_, _/_, _%_, _^_, _≤_, _<_};
 ghost use lib.ListN.{getD, take, replicate};
 ghost use Rattle.quotient.specs.Residue.{constant, product as productOf, power as powerOf, residueOfX, substitute as substituteOf};
 ghost use Rattle.quotient.specs.Array.{padded, Holds};
-ghost use Rattle.residue.specs.Delayed.{Modulus, reduced, Delayed, Stepped};
+ghost use Rattle.residue.specs.Delayed.{Reduction, reduced, Delayed, Stepped};
 
 // One step of Horner's rule: w becomes X·w + c·v. Its top word goes out as q·t, where q is the opposite of the top word modulo p; no other
 // word is reduced.
@@ -42,7 +42,7 @@ fn accumulate(
     v: &[u64; 16],
     w: &mut [u64; 16],
 )
-    requires { ⌜ Modulus p k r × (1 ≤ n) × (n ≤ 16) ⌝ }
+    requires { ⌜ Reduction p k r × (1 ≤ n) × (n ≤ 16) ⌝ }
     requires { ⌜ Holds p n (now t) × Holds p n (now u) × Holds p n (now v) ⌝ }
     requires { ⌜ now w ≡ replicate 16 0 ⌝ }
     ensures { λ _. ⌜ Delayed p n n (productOf p (take n (now (t .entry))) (take n (now (u .entry))) (take n (now (v .entry)))) (now (w .exit)) ⌝ }
@@ -57,7 +57,7 @@ fn accumulate(
 
 // Takes each word of w modulo p.
 fn reduce(p: u64, k: u64, r: u64, n: usize, w: &mut [u64; 16])
-    requires { ⌜ Modulus p k r × (n ≤ 16) ⌝ }
+    requires { ⌜ Reduction p k r × (n ≤ 16) ⌝ }
     requires { ⌜ Delayed p n 17 (reduced p (take n (now w))) (now w) ⌝ }
     ensures { λ _. ⌜ now (w .exit) ≡ padded (reduced p (take n (now (w .entry)))) ⌝ }
 {
@@ -78,7 +78,7 @@ pub fn multiply(
     u: &[u64; 16],
     v: &[u64; 16],
 ) -> [u64; 16]
-    requires { ⌜ Modulus p k r × (1 ≤ n) × (n ≤ 16) ⌝ }
+    requires { ⌜ Reduction p k r × (1 ≤ n) × (n ≤ 16) ⌝ }
     requires { ⌜ Holds p n (now t) × Holds p n (now u) × Holds p n (now v) ⌝ }
     ensures { λ w. ⌜ w ≡ padded (productOf p (take n (now (t .entry))) (take n (now (u .entry))) (take n (now (v .entry)))) ⌝ }
 {
@@ -134,7 +134,7 @@ fn power_by_halving(
     u: &[u64; 16],
     e: u64,
 ) -> [u64; 16]
-    requires { ⌜ Modulus p k r × (1 ≤ n) × (n ≤ 16) ⌝ }
+    requires { ⌜ Reduction p k r × (1 ≤ n) × (n ≤ 16) ⌝ }
     requires { ⌜ Holds p n (now t) × Holds p n (now u) ⌝ }
     ensures { λ w. ⌜ w ≡ padded (powerOf p (take n (now (t .entry))) (take n (now (u .entry))) e) ⌝ }
 {
@@ -175,7 +175,7 @@ fn raise(
     e: u64,
     w: &mut [u64; 16],
 )
-    requires { ⌜ Modulus p k r × (1 ≤ n) × (n ≤ 16) ⌝ }
+    requires { ⌜ Reduction p k r × (1 ≤ n) × (n ≤ 16) ⌝ }
     requires { ⌜ Holds p n (now t) × (now half ≡ padded (powerOf p (take n (now t)) (residueOfX p (take n (now t))) (e / 2))) ⌝ }
     requires { ⌜ now w ≡ replicate 16 0 ⌝ }
     ensures { λ _. ⌜ Delayed p n 17 (powerOf p (take n (now (t .entry))) (residueOfX p (take n (now (t .entry)))) e) (now (w .exit)) ⌝ }
@@ -190,7 +190,7 @@ fn raise(
 
 // X^e modulo T into w, which is 0. An exponent below n needs no product.
 fn power_of_x_by_halving(p: u64, k: u64, r: u64, n: usize, t: &[u64; 16], e: u64, w: &mut [u64; 16])
-    requires { ⌜ Modulus p k r × (1 ≤ n) × (n ≤ 16) ⌝ }
+    requires { ⌜ Reduction p k r × (1 ≤ n) × (n ≤ 16) ⌝ }
     requires { ⌜ Holds p n (now t) ⌝ }
     requires { ⌜ now w ≡ replicate 16 0 ⌝ }
     ensures { λ _. ⌜ now (w .exit) ≡ padded (powerOf p (take n (now (t .entry))) (residueOfX p (take n (now (t .entry)))) e) ⌝ }
@@ -228,7 +228,7 @@ fn horner(
     s: &[u64; 16],
     u: &[u64; 16],
 ) -> [u64; 16]
-    requires { ⌜ Modulus p k r × (1 ≤ n) × (n ≤ 16) ⌝ }
+    requires { ⌜ Reduction p k r × (1 ≤ n) × (n ≤ 16) ⌝ }
     requires { ⌜ Holds p n (now t) × Holds p n (now s) × Holds p n (now u) ⌝ }
     ensures { λ w. ⌜ w ≡ padded (substituteOf p (take n (now (t .entry))) (take n (now (s .entry))) (take n (now (u .entry)))) ⌝ }
 {

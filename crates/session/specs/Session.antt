@@ -74,10 +74,7 @@ answer (suc k) next taken = record { number = suc k; session = taken }
 
 unfoldable pub loadFrom : View → Session → ℕ → ℕ → List ℕ → List ℕ → Step
 loadFrom empty x p n t1 t2 =
-    answer
-    (refuseSent p n (t1 ∷ t2 ∷ []) (t1 ∷ t2 ∷ []) 0)
-    (loadedSession p n t1 t2)
-    x
+    answer (refuseSent p n (t1 ∷ t2 ∷ []) (t1 ∷ t2 ∷ []) 0) (loadedSession p n t1 t2) x
 loadFrom (loaded q m u1 u2) x p n t1 t2 = answer 23 x x
 loadFrom (paired q m u1 u2 s r) x p n t1 t2 = answer 23 x x
 
@@ -99,10 +96,7 @@ propose x s r = proposeFrom (view x) x s r
 unfoldable pub findFrom : View → Session → Step
 findFrom empty x = answer 21 x x
 findFrom (loaded p n t1 t2) x =
-    answer
-    (pairNumber p n t1 t2)
-    (pairedSession p n t1 t2 (findS p n t1 t2) (findR p n t1 t2))
-    x
+    answer (pairNumber p n t1 t2) (pairedSession p n t1 t2 (findS p n t1 t2) (findR p n t1 t2)) x
 findFrom (paired p n t1 t2 s r) x = answer 24 x x
 
 unfoldable pub find : Session → Step

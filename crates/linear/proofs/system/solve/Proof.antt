@@ -3,7 +3,7 @@ use borrow.Author.Needs.{needs}
 use native.Mathlib.Omega.{arith}
 use Prim.Native.Nat.{_-_, _≤_}
 use Rattle.linear.specs.Elimination.{Advanced}
-use Rattle.linear.proofs.Answer.{modulus-of, walk-start, walk-turn, no-pivot, outcome-singular, outcome-regular}
+use Rattle.linear.proofs.Answer.{reduction-of, walk-start, walk-turn, no-pivot, outcome-singular, outcome-regular}
 use Rattle.linear.proofs.system.solve.Statement.{statement}
 use Rattle.linear.proofs.system.solve.Tie as tie
 
@@ -30,7 +30,7 @@ returns c = (search outcome-singular, search needs)
 
 eliminate-requires : tie.Need-eliminate-requires Inv-loop μ-loop
 eliminate-requires c κs =
-    (c .before .before .before .before .before .before .before .pre .0, (search modulus-of, (omega arith, (search needs, search needs))))
+    (c .before .before .before .before .before .before .before .pre .0, (search reduction-of, (omega arith, (search needs, search needs))))
 
 add-c : tie.Need-add-c Inv-loop μ-loop
 add-c c = search needs

@@ -1,5 +1,5 @@
 -- `reciprocal` meets its contract.
-use Rattle.residue.proofs.Reciprocal.{multiple-fits, multiple-positive, modulus-of}
+use Rattle.residue.proofs.Reciprocal.{multiple-fits, multiple-positive, reduction-of}
 use Rattle.residue.proofs.delayed.reciprocal.Statement.{statement}
 use Rattle.residue.proofs.delayed.reciprocal.Tie as tie
 
@@ -10,7 +10,7 @@ div-result : tie.Need-div-result
 div-result c = search multiple-positive
 
 returns : tie.Need-returns
-returns c = search modulus-of
+returns c = search reduction-of
 
 pub reciprocal-spec : {M : Type 1} → statement M
 reciprocal-spec = tie.close (tie.spec mul-result div-result returns)
