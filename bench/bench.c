@@ -46,8 +46,8 @@ static yokebean_session session;
 static uint16_t image[LARGEST_TABLE];
 
 static void our_prepare(const job *j) {
-    yokebean_step step = yokebean_load(yokebean_new(), j->p, j->n, j->t1, j->n, j->t2, j->n);
-    session = yokebean_propose(step.session, j->s, j->n, j->r, j->n).session;
+    yokebean_step step = yokebean_session_load(yokebean_session_new(), j->p, j->n, j->t1, j->n, j->t2, j->n);
+    session = yokebean_session_propose(step.session, j->s, j->n, j->r, j->n).session;
 }
 
 static int our_find(void) {
@@ -61,7 +61,7 @@ static int our_check(void) {
 }
 
 static int our_convert(void) {
-    return yokebean_forward(session, current.table, current.words, image, current.words).number == 0;
+    return yokebean_session_forward(session, current.table, current.words, image, current.words).number == 0;
 }
 
 /* A product is timed inside a power, as the difference of u^(2^60) and u^(2^12), 48 squarings, without the cost of the call. */

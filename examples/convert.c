@@ -16,13 +16,13 @@ int main(void) {
         return 1;
     print("S = ", s, 3);
     print("R = ", r, 3);
-    yokebean_step step = yokebean_load(yokebean_new(), 7, 3, t1, 3, t2, 3);
+    yokebean_step step = yokebean_session_load(yokebean_session_new(), 7, 3, t1, 3, t2, 3);
     if (step.number == 0)
-        step = yokebean_find_pair(step.session);
+        step = yokebean_session_find(step.session);
     if (step.number == 0)
-        step = yokebean_forward(step.session, table, 6, image, 6);
+        step = yokebean_session_forward(step.session, table, 6, image, 6);
     if (step.number == 0)
-        step = yokebean_back(step.session, image, 6, again, 6);
+        step = yokebean_session_back(step.session, image, 6, again, 6);
     if (step.number != 0)
         return 1;
     print("table ", table, 6);

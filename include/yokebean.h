@@ -62,11 +62,11 @@ typedef struct {
 } yokebean_card;
 
 /* Reads a card; its coefficients go into the first places of 64 lent words, the rest become 0. 3, 11, 1, 12, 11, 13, 4. */
-yokebean_card yokebean_read_card(const uint8_t *card, size_t card_len, uint16_t *words, size_t words_len);
+yokebean_card yokebean_card_read(const uint8_t *card, size_t card_len, uint16_t *words, size_t words_len);
 
 /* Writes a card of 2n (kind 1) or 4n (kind 2) coefficients into a list of exactly its length: (24 + 2*kind*n*w + 7) / 8 bytes, rounded down,
  * where w is the number of binary digits of p - 1; at most 131. 1, 2, 12, 3, 4. */
-uint32_t yokebean_write_card(uint32_t p, uint32_t n, uint32_t kind, const uint16_t *words, size_t words_len, uint8_t *card, size_t card_len);
+uint32_t yokebean_card_write(uint32_t p, uint32_t n, uint32_t kind, const uint16_t *words, size_t words_len, uint8_t *card, size_t card_len);
 
 /* A session's value: state 0 is empty, 1 loaded (p, n, t1, t2), 2 paired (also s, r); the first n words of each array count. A value with
  * another state, or with a p, n or coefficient, of those that its state has, that 1, 2 or 4 refuses, counts as a new one. */
@@ -82,24 +82,24 @@ typedef struct {
 } yokebean_step;
 
 /* A new session is empty. */
-yokebean_session yokebean_new(void);
+yokebean_session yokebean_session_new(void);
 
 /* Empty to loaded. 23, 1 to 4. */
-yokebean_step yokebean_load(yokebean_session session, uint32_t p, uint32_t n, const uint16_t *t1, size_t t1_len,
+yokebean_step yokebean_session_load(yokebean_session session, uint32_t p, uint32_t n, const uint16_t *t1, size_t t1_len,
                             const uint16_t *t2, size_t t2_len);
 
 /* Loaded to paired, if the checker accepts. 21, 24, 3, 4, 8. */
-yokebean_step yokebean_propose(yokebean_session session, const uint16_t *s, size_t s_len, const uint16_t *r, size_t r_len);
+yokebean_step yokebean_session_propose(yokebean_session session, const uint16_t *s, size_t s_len, const uint16_t *r, size_t r_len);
 
 /* Loaded to paired, with the finder's pair. 21, 24, 5, 6, 7. */
-yokebean_step yokebean_find_pair(yokebean_session session);
+yokebean_step yokebean_session_find(yokebean_session session);
 
 /* Converts a table of residues, group of n words by group: forward u -> u(S) mod T2, back u -> u(R) mod T1. 21, 22, 9, 10, 4. */
-yokebean_step yokebean_forward(yokebean_session session, const uint16_t *in, size_t in_len, uint16_t *out, size_t out_len);
-yokebean_step yokebean_back(yokebean_session session, const uint16_t *in, size_t in_len, uint16_t *out, size_t out_len);
+yokebean_step yokebean_session_forward(yokebean_session session, const uint16_t *in, size_t in_len, uint16_t *out, size_t out_len);
+yokebean_step yokebean_session_back(yokebean_session session, const uint16_t *in, size_t in_len, uint16_t *out, size_t out_len);
 
 /* Any state to empty; never refused. */
-yokebean_step yokebean_clear(yokebean_session session);
+yokebean_step yokebean_session_clear(yokebean_session session);
 
 #ifdef __cplusplus
 }

@@ -15,3 +15,7 @@ pub mod PowerRoots
 pub mod Order
 pub mod OrderExists
 pub mod Equality
+pub mod Scan
+pub mod Constants
+pub mod Smallest
+pub mod NumberScan

@@ -2,3 +2,4 @@
 pub mod Ring
 pub mod Lists
 pub mod Prime
+pub mod Search

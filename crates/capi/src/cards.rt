@@ -1,6 +1,7 @@
 // The reader and the writer of cards.
 ghost use mathlib.Core.Path.{_≡_};
 ghost use Rattle.card.specs.Card.{readNumber, readPrime, readDegree, readKind, readOutput, writeNumber, writeOutput};
+use array::Word;
 
 // The reader's answer.
 #[repr(C)]
@@ -12,7 +13,7 @@ pub struct CardValue {
 }
 
 #[no_mangle]
-pub extern "C" fn yokebean_read_card(bytes: &[u8], words: &mut [u16]) -> CardValue
+pub extern "C" fn yokebean_card_read(bytes: &[u8], words: &mut [Word]) -> CardValue
     ensures { λ r. ⌜ r .number ≡ readNumber (now (bytes .entry)) (now (words .entry)) ⌝ }
     ensures { λ r. ⌜ r .p ≡ readPrime (now (bytes .entry)) (now (words .entry)) ⌝ }
     ensures { λ r. ⌜ r .n ≡ readDegree (now (bytes .entry)) (now (words .entry)) ⌝ }
@@ -29,11 +30,11 @@ pub extern "C" fn yokebean_read_card(bytes: &[u8], words: &mut [u16]) -> CardVal
 }
 
 #[no_mangle]
-pub extern "C" fn yokebean_write_card(
+pub extern "C" fn yokebean_card_write(
     p: u32,
     n: u32,
     kind: u32,
-    words: &[u16],
+    words: &[Word],
     bytes: &mut [u8],
 ) -> u32
     ensures { λ k. ⌜ k ≡ writeNumber p n kind (now (words .entry)) (now (bytes .entry)) ⌝ }

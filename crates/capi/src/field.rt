@@ -2,16 +2,17 @@
 ghost use mathlib.Core.Path.{_≡_};
 ghost use Rattle.finder.specs.Finder.{findNumber, findOutputS, findOutputR};
 ghost use Rattle.pair.specs.Pair.{checkNumber};
-ghost use Rattle.residue.specs.Calls.{substituteNumber, substituteOutput, productNumber, productOutput, powerNumber, powerOutput};
+ghost use Rattle.arithmetic.specs.Calls.{substituteNumber, substituteOutput, productNumber, productOutput, powerNumber, powerOutput};
+use array::Word;
 
 #[no_mangle]
 pub extern "C" fn yokebean_check(
     p: u32,
     n: u32,
-    t1: &[u16],
-    t2: &[u16],
-    s: &[u16],
-    r: &[u16],
+    t1: &[Word],
+    t2: &[Word],
+    s: &[Word],
+    r: &[Word],
 ) -> u32
     ensures { λ k. ⌜ k ≡ checkNumber p n (now (t1 .entry)) (now (t2 .entry)) (now (s .entry)) (now (r .entry)) ⌝ }
 {
@@ -22,10 +23,10 @@ pub extern "C" fn yokebean_check(
 pub extern "C" fn yokebean_find(
     p: u32,
     n: u32,
-    t1: &[u16],
-    t2: &[u16],
-    s: &mut [u16],
-    r: &mut [u16],
+    t1: &[Word],
+    t2: &[Word],
+    s: &mut [Word],
+    r: &mut [Word],
 ) -> u32
     ensures { λ k. ⌜ k ≡ findNumber p n (now (t1 .entry)) (now (t2 .entry)) (now (s .entry)) (now (r .entry)) ⌝ }
     ensures { λ k. ⌜ now (s .exit) ≡ findOutputS p n (now (t1 .entry)) (now (t2 .entry)) (now (s .entry)) (now (r .entry)) ⌝ }
@@ -38,43 +39,43 @@ pub extern "C" fn yokebean_find(
 pub extern "C" fn yokebean_substitute(
     p: u32,
     n: u32,
-    t: &[u16],
-    s: &[u16],
-    u: &[u16],
-    out: &mut [u16],
+    t: &[Word],
+    s: &[Word],
+    u: &[Word],
+    out: &mut [Word],
 ) -> u32
     ensures { λ k. ⌜ k ≡ substituteNumber p n (now (t .entry)) (now (s .entry)) (now (u .entry)) (now (out .entry)) ⌝ }
     ensures { λ k. ⌜ now (out .exit) ≡ substituteOutput p n (now (t .entry)) (now (s .entry)) (now (u .entry)) (now (out .entry)) ⌝ }
 {
-    residue::call::substitute(p, n, t, s, u, out)
+    arithmetic::call::substitute(p, n, t, s, u, out)
 }
 
 #[no_mangle]
 pub extern "C" fn yokebean_product(
     p: u32,
     n: u32,
-    t: &[u16],
-    u: &[u16],
-    v: &[u16],
-    out: &mut [u16],
+    t: &[Word],
+    u: &[Word],
+    v: &[Word],
+    out: &mut [Word],
 ) -> u32
     ensures { λ k. ⌜ k ≡ productNumber p n (now (t .entry)) (now (u .entry)) (now (v .entry)) (now (out .entry)) ⌝ }
     ensures { λ k. ⌜ now (out .exit) ≡ productOutput p n (now (t .entry)) (now (u .entry)) (now (v .entry)) (now (out .entry)) ⌝ }
 {
-    residue::call::product(p, n, t, u, v, out)
+    arithmetic::call::product(p, n, t, u, v, out)
 }
 
 #[no_mangle]
 pub extern "C" fn yokebean_power(
     p: u32,
     n: u32,
-    t: &[u16],
-    u: &[u16],
+    t: &[Word],
+    u: &[Word],
     k: u64,
-    out: &mut [u16],
+    out: &mut [Word],
 ) -> u32
     ensures { λ x. ⌜ x ≡ powerNumber p n (now (t .entry)) (now (u .entry)) (now (out .entry)) ⌝ }
     ensures { λ x. ⌜ now (out .exit) ≡ powerOutput p n (now (t .entry)) (now (u .entry)) k (now (out .entry)) ⌝ }
 {
-    residue::call::power(p, n, t, u, k, out)
+    arithmetic::call::power(p, n, t, u, k, out)
 }

@@ -1,6 +1,7 @@
 // The session. A value with a state above 2 is one made otherwise and counts as new.
 use crate::value::session_of;
 use crate::value::step_of;
+use array::Word;
 ghost use mathlib.Core.Path.{_≡_};
 ghost use Rattle.capi.specs.Values.{sessionOf, valueOf, stepOf, convertedOf};
 ghost use Rattle.session.specs.Session.{newSession, load, propose, find, convert, forwardOutput, backOutput, clear};
@@ -11,10 +12,10 @@ pub struct SessionValue {
     pub state: u32,
     pub p: u32,
     pub n: u32,
-    pub t1: [u16; 16],
-    pub t2: [u16; 16],
-    pub s: [u16; 16],
-    pub r: [u16; 16],
+    pub t1: [Word; 16],
+    pub t2: [Word; 16],
+    pub s: [Word; 16],
+    pub r: [Word; 16],
 }
 
 // A session call's answer.
@@ -25,7 +26,7 @@ pub struct StepValue {
 }
 
 #[no_mangle]
-pub extern "C" fn yokebean_new() -> SessionValue
+pub extern "C" fn yokebean_session_new() -> SessionValue
     ensures { λ r. ⌜ r ≡ valueOf newSession ⌝ }
 {
     SessionValue {
@@ -40,12 +41,12 @@ pub extern "C" fn yokebean_new() -> SessionValue
 }
 
 #[no_mangle]
-pub extern "C" fn yokebean_load(
+pub extern "C" fn yokebean_session_load(
     session: SessionValue,
     p: u32,
     n: u32,
-    t1: &[u16],
-    t2: &[u16],
+    t1: &[Word],
+    t2: &[Word],
 ) -> StepValue
     ensures { λ r. ⌜ r ≡ stepOf session (load (sessionOf session) p n (now (t1 .entry)) (now (t2 .entry))) ⌝ }
 {
@@ -53,24 +54,24 @@ pub extern "C" fn yokebean_load(
 }
 
 #[no_mangle]
-pub extern "C" fn yokebean_propose(session: SessionValue, s: &[u16], r: &[u16]) -> StepValue
+pub extern "C" fn yokebean_session_propose(session: SessionValue, s: &[Word], r: &[Word]) -> StepValue
     ensures { λ k. ⌜ k ≡ stepOf session (propose (sessionOf session) (now (s .entry)) (now (r .entry))) ⌝ }
 {
     step_of(session, session_of(session).propose(s, r))
 }
 
 #[no_mangle]
-pub extern "C" fn yokebean_find_pair(session: SessionValue) -> StepValue
+pub extern "C" fn yokebean_session_find(session: SessionValue) -> StepValue
     ensures { λ r. ⌜ r ≡ stepOf session (find (sessionOf session)) ⌝ }
 {
     step_of(session, session_of(session).find())
 }
 
 #[no_mangle]
-pub extern "C" fn yokebean_forward(
+pub extern "C" fn yokebean_session_forward(
     session: SessionValue,
-    table: &[u16],
-    out: &mut [u16],
+    table: &[Word],
+    out: &mut [Word],
 ) -> StepValue
     ensures { λ r. ⌜ r ≡ convertedOf session (convert (sessionOf session) (now (table .entry)) (now (out .entry))) ⌝ }
     ensures { λ r. ⌜ now (out .exit) ≡ forwardOutput (sessionOf session) (now (table .entry)) (now (out .entry)) ⌝ }
@@ -83,7 +84,11 @@ pub extern "C" fn yokebean_forward(
 }
 
 #[no_mangle]
-pub extern "C" fn yokebean_back(session: SessionValue, table: &[u16], out: &mut [u16]) -> StepValue
+pub extern "C" fn yokebean_session_back(
+    session: SessionValue,
+    table: &[Word],
+    out: &mut [Word],
+) -> StepValue
     ensures { λ r. ⌜ r ≡ convertedOf session (convert (sessionOf session) (now (table .entry)) (now (out .entry))) ⌝ }
     ensures { λ r. ⌜ now (out .exit) ≡ backOutput (sessionOf session) (now (table .entry)) (now (out .entry)) ⌝ }
 {
@@ -95,7 +100,7 @@ pub extern "C" fn yokebean_back(session: SessionValue, table: &[u16], out: &mut 
 }
 
 #[no_mangle]
-pub extern "C" fn yokebean_clear(session: SessionValue) -> StepValue
+pub extern "C" fn yokebean_session_clear(session: SessionValue) -> StepValue
     ensures { λ r. ⌜ r ≡ stepOf session (clear (sessionOf session)) ⌝ }
 {
     step_of(session, session_of(session).clear())

@@ -6,13 +6,13 @@ use Prim.Native.Nat.{ℕ, zero, suc, _+_, _-_, _*_, _≤_}
 use native.Mathlib.Omega.{arith}
 use lib.ListN.{length, replicate}
 use borrow.Author.Tests.{ne-eqb, ltb-false}
-use Rattle.modular.specs.Refusal.{written}
+use Rattle.refusal.specs.Refusal.{written}
 use Rattle.card.specs.Bits.{unpacked}
 use Rattle.card.specs.Card.{width, wordCount, cardLength, fieldAt, cardPrime, cardDegree, cardKind, cardWords, readNumber, readPrime, readDegree, readKind, readOutput, unlessRefused, card, writeNumber, writeOutput}
 use Rattle.card.proofs.Fields.{fields-length}
 use Rattle.card.proofs.WordCount.{Counted, counted-kind}
 use Rattle.card.proofs.Scans.{entries}
-use Rattle.modular.proofs.Refusal.{prime-bounds, degree-given}
+use Rattle.refusal.proofs.Refusal.{prime-bounds, degree-given}
 use Rattle.card.proofs.Conditions.{length-is}
 use Rattle.card.proofs.Refusals.{Readable, readable, Writable, writable}
 use Rattle.card.proofs.Width.{width-positive}

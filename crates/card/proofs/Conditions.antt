@@ -9,7 +9,8 @@ use lib.Dec.{ltb, eqb}
 use lib.ListN.{length}
 use borrow.Author.Tests.{ltb-true, eqb-true, eq-eqb, not-false}
 use Rattle.algebra.specs.Lists.{All, all}
-use Rattle.modular.specs.Refusal.{badLength, allBelow, badWord}
+use Rattle.array.specs.Words.{allBelow}
+use Rattle.refusal.specs.Refusal.{badLength, badWord}
 use Rattle.card.specs.Card.{badKind}
 
 kind-cases : (kind : ℕ) → badKind kind ≡ false → (kind ≡ 1) ⊎ (kind ≡ 2)

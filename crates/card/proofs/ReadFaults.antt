@@ -9,7 +9,8 @@ use lib.ListN.{length, drop}
 use borrow.Author.Tests.{eq-eqb, ne-eqb, lt-ltb, le-ltb, not-true, not-false}
 use Rattle.algebra.specs.Lists.{all}
 use Rattle.modular.specs.Prime.{isPrime}
-use Rattle.modular.specs.Refusal.{refuse, badPrime, allBelow, badWord}
+use Rattle.array.specs.Words.{allBelow}
+use Rattle.refusal.specs.Refusal.{refuse, badPrime, badWord}
 use Rattle.card.specs.Bits.{unpacked}
 use Rattle.card.specs.Card.{width, badKind, wordCount, cardLength, fieldAt, fieldsAt, cardPrime, cardDegree, cardKind, cardWords, fillBits, readNumber}
 use Rattle.card.proofs.Lists.{isZero}

@@ -9,8 +9,8 @@ use lib.Dec.{ltb, eqb}
 use lib.ListN.{length}
 use borrow.Author.Tests.{eqb-true, eq-eqb, not-false}
 use Rattle.algebra.specs.Lists.{all}
-use Rattle.modular.proofs.Refusal.{refuse-none}
-use Rattle.modular.specs.Refusal.{badPrime, badDegree, badLength, badWord}
+use Rattle.refusal.proofs.Refusal.{refuse-none}
+use Rattle.refusal.specs.Refusal.{badPrime, badDegree, badLength, badWord}
 use Rattle.card.specs.Card.{badKind, wordCount, cardLength, cardPrime, cardDegree, cardKind, cardWords, fillBits, readNumber, writeNumber}
 use Rattle.card.proofs.Lists.{isZero}
 

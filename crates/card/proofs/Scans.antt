@@ -9,8 +9,9 @@ use lib.ListN.{length, getD, drop, replicate, length-append, length-drop, length
 use lib.Seq.{getD-drop}
 use borrow.Author.Tests.{eq-eqb, ne-eqb}
 use Rattle.algebra.specs.Lists.{all}
-use Rattle.modular.specs.Refusal.{allBelow}
-use Rattle.modular.proofs.Scan.{scan-next, scan-fails, scan-holds, below-next, below-fails, below-holds}
+use Rattle.array.specs.Words.{allBelow}
+use Rattle.array.proofs.Below.{below-next, below-fails, below-holds}
+use Rattle.algebra.proofs.Scan.{scan-next, scan-fails, scan-holds}
 use Rattle.card.specs.Bits.{unpacked}
 use Rattle.card.specs.Card.{fieldAt, fieldsAt}
 use Rattle.card.proofs.Lists.{isZero, getD-zeros}

@@ -13,8 +13,8 @@ use Rattle.card.specs.Card.{width, wordCount, allBits, card, cardLength,
 use Rattle.card.specs.Theorem.{Answer, WrittenReadsBack, ReadIsWritten, LongestCard}
 use Rattle.card.proofs.Lists.{zeros-pass}
 use Rattle.card.proofs.Width.{width-most}
-use Rattle.modular.specs.Refusal.{written}
-use Rattle.modular.proofs.Refusal.{prime-bounds, degree-given, given-degree}
+use Rattle.refusal.specs.Refusal.{written}
+use Rattle.refusal.proofs.Refusal.{prime-bounds, degree-given, given-degree}
 use Rattle.card.proofs.Conditions.{kind-bounds, length-is, length-good, words-below}
 use Rattle.card.proofs.Refusals.{Writable, writable, write-accepts, Readable, readable, read-accepts}
 use Rattle.card.proofs.Written.{header, says-prime, says-degree, says-kind, says-words, says-fill, fillCount, card-length, unpacked-card}

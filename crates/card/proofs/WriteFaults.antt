@@ -7,9 +7,10 @@ use native.Mathlib.Omega.{arith}
 use lib.ListN.{length}
 use borrow.Author.Tests.{ne-eqb, le-leb, lt-leb}
 use Rattle.modular.specs.Prime.{isPrime}
-use Rattle.modular.specs.Refusal.{refuse, badPrime, badDegree, badLength, allBelow, badWord}
+use Rattle.array.specs.Words.{allBelow}
+use Rattle.refusal.specs.Refusal.{refuse, badPrime, badDegree, badLength, badWord}
 use Rattle.card.specs.Card.{width, badKind, wordCount, cardLength, writeNumber}
-use Rattle.modular.proofs.Refusal.{prime-bounds, given-degree}
+use Rattle.refusal.proofs.Refusal.{prime-bounds, given-degree}
 use Rattle.card.proofs.Conditions.{bad-length-one, length-good, bad-word-one}
 use Rattle.card.proofs.WordCount.{Counted, counted-refused, counted-good}
 

@@ -15,7 +15,7 @@ use Prim.Native.Nat.{ℕ, zero, suc, _+_, _-_, _*_, _/_, _^_}
 use lib.Dec.{ltb, eqb}
 use lib.ListN.{length, take, drop, replicate}
 use Rattle.algebra.specs.Lists.{all, range, first}
-use Rattle.modular.specs.Refusal.{refuse, badPrime, badDegree, badLength, badWord, written}
+use Rattle.refusal.specs.Refusal.{refuse, badPrime, badDegree, badLength, badWord, written}
 use Rattle.card.specs.Bits.{bits, number, packed, unpacked}
 
 unfoldable pub width : ℕ → ℕ

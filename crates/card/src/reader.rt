@@ -6,13 +6,15 @@ ghost use Prim.Native.Nat.{_+_, _-_, _*_, _/_, _^_, _≤_, _<_};
 ghost use lib.Dec.{eqb};
 ghost use lib.ListN.{length, getD, drop, replicate};
 ghost use Rattle.algebra.specs.Lists.{all};
-ghost use Rattle.modular.specs.Refusal.{refuse, allBelow, badWord};
+ghost use Rattle.array.specs.Words.{allBelow};
+ghost use Rattle.refusal.specs.Refusal.{refuse, badWord};
 ghost use Rattle.card.specs.Bits.{unpacked};
 ghost use Rattle.card.specs.Card.{width as widthOf, fieldAt, fieldsAt, readNumber, readPrime, readDegree, readKind, readOutput};
 use crate::layout::bit_count;
 use crate::layout::digit;
 use crate::layout::width;
 use crate::layout::word_count;
+use array::Word;
 use modular::prime::is_prime;
 
 // What a card says: 0 or the number of the refusal, and p, n and kind, which are 0 where the card is refused.
@@ -84,19 +86,19 @@ fn words_below(card: &[u8], p: u32, w: usize, count: usize) -> bool
 }
 
 // What stands at place k of the lent words: word k, and 0 after the last.
-fn entry(card: &[u8], w: usize, count: usize, k: usize) -> u16
+fn entry(card: &[u8], w: usize, count: usize, k: usize) -> Word
     requires { ⌜ (w ≤ 16) × (count ≤ 64) × (24 + count * w ≤ 8 * length (now card)) × (k < 64) ⌝ }
     ensures { λ r. ⌜ r ≡ getD (fieldsAt (unpacked (now (card .entry))) 24 w count ++ replicate (64 - count) 0) k 0 ⌝ }
 {
     if k < count {
-        word(card, w, k) as u16
+        word(card, w, k) as Word
     } else {
         0
     }
 }
 
 // Writes the words of the card into the 64 lent words, the rest 0.
-fn copy_words(card: &[u8], w: usize, count: usize, words: &mut [u16])
+fn copy_words(card: &[u8], w: usize, count: usize, words: &mut [Word])
     requires { ⌜ (w ≤ 16) × (count ≤ 64) × (24 + count * w ≤ 8 * length (now card)) × (length (now words) ≡ 64) ⌝ }
     ensures { λ r. ⌜ now (words .exit) ≡ fieldsAt (unpacked (now (card .entry))) 24 w count ++ replicate (64 - count) 0 ⌝ }
 {
@@ -132,7 +134,7 @@ fn body_fault(card: &[u8], p: u32, count: usize) -> u32
 }
 
 // The number of the first refusal that applies, or 0.
-fn fault(card: &[u8], words: &[u16]) -> u32
+fn fault(card: &[u8], words: &[Word]) -> u32
     ensures { λ r. ⌜ r ≡ readNumber (now (card .entry)) (now (words .entry)) ⌝ }
 {
     if words.len() != 64 {
@@ -153,7 +155,7 @@ fn fault(card: &[u8], words: &[u16]) -> u32
 }
 
 // Reads a card: p, n and kind, and its words in card order into 64 lent words, the rest 0.
-pub fn read(card: &[u8], words: &mut [u16]) -> ReadCard
+pub fn read(card: &[u8], words: &mut [Word]) -> ReadCard
     ensures number { λ r. ⌜ r .number ≡ readNumber (now (card .entry)) (now (words .entry)) ⌝ }
     ensures prime { λ r. ⌜ r .p ≡ readPrime (now (card .entry)) (now (words .entry)) ⌝ }
     ensures degree { λ r. ⌜ r .n ≡ readDegree (now (card .entry)) (now (words .entry)) ⌝ }

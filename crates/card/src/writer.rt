@@ -8,11 +8,12 @@ use crate::layout::bit_count;
 use crate::layout::digit;
 use crate::layout::width;
 use crate::layout::word_count;
-use modular::list::below;
+use array::Word;
+use array::list::below;
 use modular::prime::is_prime;
 
 // Bit i of the words, of w bits each, and 0 after the last.
-fn word_bit(w: usize, words: &[u16], i: usize) -> u32
+fn word_bit(w: usize, words: &[Word], i: usize) -> u32
     requires { ⌜ (1 ≤ w) × (w ≤ 16) ⌝ }
     ensures { λ r. ⌜ (r ≡ getD (allBits w (now (words .entry))) i 0) × (r < 2) ⌝ }
 {
@@ -25,7 +26,7 @@ fn word_bit(w: usize, words: &[u16], i: usize) -> u32
 }
 
 // Bit i of the card, where w is the width of p.
-fn bit(p: u32, n: u32, kind: u32, w: usize, words: &[u16], i: usize) -> u32
+fn bit(p: u32, n: u32, kind: u32, w: usize, words: &[Word], i: usize) -> u32
     requires { ⌜ (1 ≤ n) × (1 ≤ w) × (w ≤ 16) × (w ≡ widthOf p) ⌝ }
     ensures { λ r. ⌜ (r ≡ getD (unpacked (card p n kind (now (words .entry)))) i 0) × (r < 2) ⌝ }
 {
@@ -42,7 +43,7 @@ fn bit(p: u32, n: u32, kind: u32, w: usize, words: &[u16], i: usize) -> u32
 }
 
 // Byte k of the card.
-fn byte(p: u32, n: u32, kind: u32, w: usize, words: &[u16], k: usize) -> u8
+fn byte(p: u32, n: u32, kind: u32, w: usize, words: &[Word], k: usize) -> u8
     requires { ⌜ (1 ≤ n) × (1 ≤ w) × (w ≤ 16) × (w ≡ widthOf p) × (k < length (card p n kind (now words))) × (k ≤ 131) ⌝ }
     ensures { λ r. ⌜ r ≡ getD (card p n kind (now (words .entry))) k 0 ⌝ }
 {
@@ -56,7 +57,7 @@ fn byte(p: u32, n: u32, kind: u32, w: usize, words: &[u16], k: usize) -> u8
 }
 
 // Writes the card into the lent bytes, which are as many as it has.
-fn write_bytes(p: u32, n: u32, kind: u32, w: usize, words: &[u16], out: &mut [u8])
+fn write_bytes(p: u32, n: u32, kind: u32, w: usize, words: &[Word], out: &mut [u8])
     requires { ⌜ (1 ≤ n) × (1 ≤ w) × (w ≤ 16) × (w ≡ widthOf p) × (length (now out) ≡ length (card p n kind (now words))) × (length (now out) ≤ 131) ⌝ }
     ensures { λ r. ⌜ now (out .exit) ≡ card p n kind (now (words .entry)) ⌝ }
 {
@@ -68,7 +69,7 @@ fn write_bytes(p: u32, n: u32, kind: u32, w: usize, words: &[u16], out: &mut [u8
 }
 
 // The number of the first refusal that applies, or 0.
-fn fault(p: u32, n: u32, kind: u32, words: &[u16], out: &[u8]) -> u32
+fn fault(p: u32, n: u32, kind: u32, words: &[Word], out: &[u8]) -> u32
     ensures { λ r. ⌜ r ≡ writeNumber p n kind (now (words .entry)) (now (out .entry)) ⌝ }
 {
     if !is_prime(p) {
@@ -97,7 +98,7 @@ fn fault(p: u32, n: u32, kind: u32, words: &[u16], out: &[u8]) -> u32
 }
 
 // Writes the card of p, n, kind and its words in card order into a list of exactly its length: 0, or the number of the refusal.
-pub fn write(p: u32, n: u32, kind: u32, words: &[u16], out: &mut [u8]) -> u32
+pub fn write(p: u32, n: u32, kind: u32, words: &[Word], out: &mut [u8]) -> u32
     ensures number { λ r. ⌜ r ≡ writeNumber p n kind (now (words .entry)) (now (out .entry)) ⌝ }
     ensures output { λ r. ⌜ now (out .exit) ≡ writeOutput p n kind (now (words .entry)) (now (out .entry)) ⌝ }
 {

@@ -9,15 +9,18 @@ use lib.ListN.{length}
 use Rattle.algebra.specs.Lists.{all, equal, first, range}
 use Rattle.card.specs.Bits.{bits, numberFrom, bytes, packed}
 use Rattle.card.specs.Card.{width, allBits, card, badKind, cardLength, writeNumber, writeOutput}
-use Rattle.finder.specs.Finder.{zeta, rootOfRatio, firstNonZero, findNumber}
+use Rattle.roots.specs.Roots.{zeta, rootOfRatio}
+use Rattle.galois.specs.Eigenvector.{firstNonZero}
+use Rattle.finder.specs.Finder.{findNumber}
 use Rattle.modular.specs.Prime.{isPrime}
-use Rattle.modular.specs.Refusal.{badPrime, badDegree, badLength, badWord, allBelow}
+use Rattle.array.specs.Words.{allBelow}
+use Rattle.refusal.specs.Refusal.{badPrime, badDegree, badLength, badWord}
 use Rattle.pair.specs.Pair.{accepts, checkNumber}
 use Rattle.quotient.specs.Divisor.{monic, polynomialProduct}
 use Rattle.quotient.specs.DivisorTest.{hasDivisor}
 use Rattle.quotient.specs.Residue.{sum, scale, constant, shift, top, timesX, product, power, residueOfX, substitute, modulusAt}
-use Rattle.modular.proofs.Refusal.{refuse-none}
-use Rattle.quotient.specs.Array.{padded}
+use Rattle.refusal.proofs.Refusal.{refuse-none}
+use Rattle.array.specs.Array.{padded}
 use Rattle.session.specs.Session.{valid, viewAs, view, pairedSession, converted, tableNumber, convertNumber, imageForward, imageBack, forwardOutput, backOutput}
 use Rattle.examples.specs.Examples.{Found, Examples}
 use Rattle.examples.proofs.Root.{root}

@@ -9,18 +9,19 @@ use mathlib.Core.Path.{_≡_, sym, ap, _∙_, subst}
 use mathlib.Core.List.{List}
 use Prim.Native.Nat.{ℕ, suc, _-_, _%_, _≤_}
 use lib.ListN.{length}
-use Rattle.finder.specs.Finder.{zeta, rootOfRatio, express, findS, findR, findOutputS, findOutputR}
+use Rattle.roots.specs.Roots.{zeta, rootOfRatio, OrderModulo}
+use Rattle.galois.specs.Express.{express}
+use Rattle.finder.specs.Finder.{findS, findR, findOutputS, findOutputR}
 use Rattle.finder.proofs.ChosenPair.{zeta-found}
 use Rattle.finder.proofs.Construction.{root-independent}
-use Rattle.finder.proofs.Express.{express-is, express-unique}
+use Rattle.galois.proofs.Express.{express-is, express-unique}
 use Rattle.finder.proofs.Theorem.{demand-3}
-use Rattle.finder.specs.Root.{OrderModulo}
 use Rattle.pair.specs.Pair.{Congruences, checkNumber}
 use Rattle.pair.specs.Theorem.{Given}
 use Rattle.pair.proofs.Theorem.{checker-theorem}
 use Rattle.quotient.specs.Residue.{constant, modulusAt, scale, substitute}
 use Rattle.quotient.proofs.Substitution.{substitute-substitute, x-substitute}
-use Rattle.quotient.proofs.Words.{words-length}
+use Rattle.array.proofs.Words.{words-length}
 use Rattle.examples.specs.Examples.{Found}
 use Rattle.examples.proofs.Root.{Root, IsAlpha, root-is-alpha}
 

@@ -8,13 +8,13 @@ use lib.Dec.{eqb}
 use lib.ListN.{length, getD}
 use Rattle.algebra.specs.Lists.{all}
 use Rattle.finder.specs.Finder.{findNumber}
-use Rattle.modular.specs.Refusal.{badPrime, badDegree, badLength, badWord}
+use Rattle.refusal.specs.Refusal.{badPrime, badDegree, badLength, badWord}
 use Rattle.quotient.specs.Divisor.{monic, polynomialProduct}
 use Rattle.quotient.specs.DivisorTest.{hasDivisor}
-use Rattle.quotient.specs.Residue.{Words}
+use Rattle.array.specs.Words.{Words}
 use Rattle.quotient.proofs.Decision.{has-divisor-test}
-use Rattle.quotient.proofs.Refusal.{words-given, given-words}
-use Rattle.quotient.proofs.Words.{words-length}
+use Rattle.refusal.proofs.Lists.{words-given, given-words}
+use Rattle.array.proofs.Words.{words-length}
 
 pub words-counted : (p : ℕ) (u : List ℕ) → badWord p (u ∷ []) ≡ false → Words p (length u) u
 unfolding badLength all

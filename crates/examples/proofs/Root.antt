@@ -14,24 +14,24 @@ use Rattle.algebra.specs.Prime.{Prime}
 use Rattle.algebra.specs.Ring.{CommutativeRing}
 use Rattle.algebra.specs.Ring as Ring
 use Rattle.algebra.proofs.RingLaws.{power-add, power-mul, power-one}
-use Rattle.finder.specs.Finder.{alpha, firstNonZero, powerConstant}
-use Rattle.finder.specs.Theorem.{Eigenvector}
-use Rattle.finder.proofs.Alpha.{alpha-unique, power-constant-is}
-use Rattle.finder.specs.System.{Independent}
-use Rattle.finder.proofs.Irreducible.{eigenvector-unique, kernel-independent}
-use Rattle.finder.proofs.KernelVector.{KernelVector, kernel-of-eigenvector}
-use Rattle.finder.proofs.FirstNonZero.{firstNonZero-constant-zero}
-use Rattle.finder.proofs.NoDivisor.{no-divisor}
-use Rattle.finder.proofs.ResidueConstants.{power-numeral}
-use Rattle.finder.specs.Root.{OrderModulo}
-use Rattle.finder.proofs.Zeta.{power-of-numeral}
-use Rattle.modular.specs.Refusal.{badLength, badWord}
+use Rattle.galois.specs.Eigenvector.{alpha, firstNonZero, powerConstant, Eigenvector}
+use Rattle.galois.proofs.Alpha.{alpha-unique, power-constant-is}
+use Rattle.galois.specs.Express.{Independent}
+use Rattle.galois.proofs.Irreducible.{eigenvector-unique, kernel-independent}
+use Rattle.galois.proofs.KernelVector.{KernelVector, kernel-of-eigenvector}
+use Rattle.galois.proofs.FirstNonZero.{firstNonZero-constant-zero}
+use Rattle.galois.proofs.NoDivisor.{no-divisor}
+use Rattle.galois.proofs.ResidueConstants.{power-numeral}
+use Rattle.roots.specs.Roots.{OrderModulo}
+use Rattle.roots.proofs.Zeta.{power-of-numeral}
+use Rattle.refusal.specs.Refusal.{badLength, badWord}
 use Rattle.quotient.specs.Divisor.{HasDivisor}
-use Rattle.quotient.specs.Residue.{Words, Residue, constant, power, scale}
+use Rattle.array.specs.Words.{Words}
+use Rattle.quotient.specs.Residue.{Residue, constant, power, scale}
 use Rattle.quotient.proofs.Reduction.{characteristic, scale-is}
-use Rattle.quotient.proofs.Refusal.{words-given}
+use Rattle.refusal.proofs.Lists.{words-given}
 use Rattle.quotient.proofs.Ring.{residueRing, power-is}
-use Rattle.quotient.proofs.Words.{to-length}
+use Rattle.array.proofs.Words.{to-length}
 
 pub record Root (p n : ℕ) (t : List ℕ) (z : ℕ) (v : List ℕ) (a : ℕ) : Type 0 where
   words : Words p n v

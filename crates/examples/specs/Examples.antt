@@ -5,10 +5,12 @@ use mathlib.Core.List.{List, [], _∷_}
 use Prim.Native.Nat.{ℕ}
 use lib.ListN.{length}
 use Rattle.card.specs.Card.{writeOutput}
-use Rattle.finder.specs.Finder.{zeta, alpha, powerConstant, rootOfRatio, findS, findR, findNumber, findOutputS, findOutputR}
+use Rattle.roots.specs.Roots.{zeta, rootOfRatio}
+use Rattle.galois.specs.Eigenvector.{alpha, powerConstant}
+use Rattle.finder.specs.Finder.{findS, findR, findNumber, findOutputS, findOutputR}
 use Rattle.pair.specs.Pair.{checkNumber}
 use Rattle.quotient.specs.Divisor.{monic, polynomialProduct}
-use Rattle.quotient.specs.Residue.{Words}
+use Rattle.array.specs.Words.{Words}
 use Rattle.session.specs.Session.{pairedSession, forwardOutput, backOutput}
 
 -- the finder's values for two models, from ζ to R

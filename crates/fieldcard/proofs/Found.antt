@@ -5,9 +5,9 @@ use Prim.Native.Nat.{ℕ, _+_, _*_}
 use native.Mathlib.Omega.{arith}
 use lib.ListN.{length, take, drop, length-append}
 use lib.Seq.{take-add}
-use Rattle.modular.specs.Refusal.{written}
+use Rattle.refusal.specs.Refusal.{written}
 use Rattle.finder.specs.Finder.{findNumber, findS, findR, findOutputS, findOutputR}
-use Rattle.pair.specs.Theorem.{Models}
+use Rattle.refusal.specs.Models.{Models}
 use Rattle.fieldcard.specs.Answer.{part, pairWords}
 use Rattle.fieldcard.specs.Found.{Found}
 use Rattle.fieldcard.specs.Text.{Appended}

@@ -6,13 +6,14 @@ use Prim.Native.Nat.{ℕ}
 use lib.ListN.{length}
 use borrow.Author.Tests.{eq-eqb}
 use Rattle.algebra.specs.Lists.{all}
-use Rattle.modular.specs.Refusal.{refuse, badLength}
-use Rattle.modular.proofs.Refusal.{given-sent}
-use Rattle.quotient.proofs.Refusal.{given-words}
-use Rattle.quotient.proofs.Words.{words-length}
+use Rattle.refusal.specs.Refusal.{refuse, badLength}
+use Rattle.refusal.proofs.Refusal.{given-sent}
+use Rattle.refusal.proofs.Lists.{given-words}
+use Rattle.array.proofs.Words.{words-length}
 use Rattle.finder.specs.Finder.{pairNumber, findNumber}
 use Rattle.pair.specs.Pair.{accepts, checkNumber}
-use Rattle.pair.specs.Theorem.{Models, Given}
+use Rattle.refusal.specs.Models.{Models}
+use Rattle.pair.specs.Theorem.{Given}
 use Rattle.pair.proofs.Refusals.{all-sent}
 
 module _ (p n : ℕ) (t1 t2 : List ℕ) (m : Models p n t1 t2) (lentS lentR : List ℕ) (size-s : length lentS ≡ n) (size-r : length lentR ≡ n) where

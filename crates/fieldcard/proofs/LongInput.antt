@@ -12,11 +12,11 @@ use lib.Dec.{eqb}
 use lib.ListN.{length, take, drop, replicate, length-drop, take-append-drop}
 use lib.Seq.{take-all, take-append-le, drop-append-le, length-take-le}
 use Rattle.algebra.specs.Lists.{all}
-use Rattle.modular.specs.Refusal.{refuse, badPrime, badLength}
+use Rattle.refusal.specs.Refusal.{refuse, badPrime, badLength}
 use Rattle.card.specs.Bits.{bits, number, unpacked}
 use Rattle.card.specs.Card.{badKind, cardLength, cardPrime, cardDegree, cardKind, fieldAt, readNumber}
 use Rattle.card.proofs.Conditions.{kind-bounds}
-use Rattle.modular.proofs.Refusal.{prime-bounds}
+use Rattle.refusal.proofs.Refusal.{prime-bounds}
 use Rattle.card.proofs.Packed.{unpacked-length}
 use Rattle.card.proofs.Theorem.{length-most}
 use Rattle.fieldcard.specs.Answer.{refusedText, answerText}

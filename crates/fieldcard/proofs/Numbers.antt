@@ -6,7 +6,7 @@ use native.Mathlib.Omega.{arith}
 use lib.Dec.{ltb, eqb}
 use lib.ListN.{length}
 use Rattle.algebra.specs.Lists.{all}
-use Rattle.modular.specs.Refusal.{refuse, badPrime, badLength, badWord}
+use Rattle.refusal.specs.Refusal.{refuse, badPrime, badLength, badWord}
 use Rattle.quotient.specs.DivisorTest.{hasDivisor}
 use Rattle.card.specs.Card.{badKind, cardLength, cardPrime, cardDegree, cardKind, cardWords, fillBits, readNumber}
 use Rattle.finder.specs.Finder.{pairNumber}

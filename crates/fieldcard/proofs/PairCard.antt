@@ -5,10 +5,10 @@ use Prim.Native.Nat.{ℕ, _+_, _*_, _/_, _≤_}
 use native.Mathlib.Omega.{arith}
 use lib.ListN.{length, take, drop, replicate, length-append}
 use lib.Seq.{take-at, length-take-le}
-use Rattle.modular.specs.Refusal.{written}
+use Rattle.refusal.specs.Refusal.{written}
 use Rattle.card.specs.Card.{width, card, cardLength, writeNumber, writeOutput}
 use Rattle.card.proofs.Conditions.{length-is, length-good}
-use Rattle.modular.proofs.Refusal.{prime-bounds, degree-given}
+use Rattle.refusal.proofs.Refusal.{prime-bounds, degree-given}
 use Rattle.card.proofs.Refusals.{Writable, writable, write-accepts}
 use Rattle.card.proofs.Theorem.{longest-card}
 use Rattle.fieldcard.specs.Text.{Begins}

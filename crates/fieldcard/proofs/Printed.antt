@@ -4,11 +4,12 @@ use mathlib.Core.Bool.{not}
 use mathlib.Core.List.{List}
 use Prim.Native.Nat.{ℕ, zero, suc, _*_, _<_}
 use lib.ListN.{take, replicate}
-use Rattle.modular.specs.Refusal.{refuse}
+use Rattle.refusal.specs.Refusal.{refuse}
 use Rattle.card.specs.Card.{card, cardLength, writeNumber}
 use Rattle.finder.specs.Finder.{pairNumber}
 use Rattle.pair.specs.Pair.{accepts, checkNumber}
-use Rattle.pair.specs.Theorem.{Models, Given}
+use Rattle.refusal.specs.Models.{Models}
+use Rattle.pair.specs.Theorem.{Given}
 use Rattle.fieldcard.specs.Answer.{part, pairText, validText, refusedText, printed, pairWords, jobText, pairCardText}
 use Rattle.fieldcard.specs.Found.{Found}
 use Rattle.fieldcard.specs.Text.{Begins}

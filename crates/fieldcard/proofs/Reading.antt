@@ -6,17 +6,18 @@ use native.Mathlib.Omega.{arith}
 use borrow.Author.Tests.{eq-eqb, ne-eqb, ltb-false}
 use lib.ListN.{length, take, drop, replicate, length-drop}
 use lib.Seq.{take-append-le, drop-append-le}
-use Rattle.modular.proofs.Refusal.{prime-given}
-use Rattle.quotient.specs.Residue.{Words}
-use Rattle.quotient.proofs.Refusal.{words-given}
-use Rattle.quotient.proofs.Words.{take-words, drop-words}
+use Rattle.refusal.proofs.Refusal.{prime-given}
+use Rattle.array.specs.Words.{Words}
+use Rattle.refusal.proofs.Lists.{words-given}
+use Rattle.array.proofs.Words.{take-words, drop-words}
 use Rattle.card.specs.Bits.{unpacked}
 use Rattle.card.specs.Card.{cardPrime, cardDegree, cardKind, cardWords, width, wordCount, readNumber, readPrime, readDegree, readKind, readOutput}
 use Rattle.card.proofs.Conditions.{kind-bounds, length-good}
 use Rattle.card.proofs.Fields.{field-below, fields-length}
 use Rattle.card.proofs.Packed.{unpacked-length, unpacked-binary}
 use Rattle.card.proofs.Refusals.{Readable, readable}
-use Rattle.pair.specs.Theorem.{Models, Given}
+use Rattle.refusal.specs.Models.{Models}
+use Rattle.pair.specs.Theorem.{Given}
 use Rattle.fieldcard.specs.Answer.{part, cardPart, refusedText, printed, jobText, pairCardText, cardText, answerText}
 use Rattle.fieldcard.specs.Text.{Begins}
 use Rattle.fieldcard.proofs.Numbers.{read-small}

@@ -4,15 +4,16 @@ use mathlib.Core.List.{List, [], _∷_}
 use Prim.Native.Nat.{ℕ, _+_, _*_}
 use native.Mathlib.Omega.{arith}
 use lib.ListN.{replicate, length-replicate}
-use Rattle.modular.specs.Refusal.{written}
-use Rattle.quotient.specs.Residue.{Words}
-use Rattle.modular.proofs.Refusal.{given-prime, given-degree}
-use Rattle.quotient.proofs.Refusal.{given-words}
-use Rattle.quotient.proofs.Words.{words-length, append-words}
+use Rattle.refusal.specs.Refusal.{written}
+use Rattle.array.specs.Words.{Words}
+use Rattle.refusal.proofs.Refusal.{given-prime, given-degree}
+use Rattle.refusal.proofs.Lists.{given-words}
+use Rattle.array.proofs.Words.{words-length, append-words}
 use Rattle.card.specs.Card.{badKind, cardLength, writeNumber}
 use Rattle.card.proofs.Conditions.{length-good}
 use Rattle.card.proofs.Refusals.{write-accepts}
-use Rattle.pair.specs.Theorem.{Models, Given}
+use Rattle.refusal.specs.Models.{Models}
+use Rattle.pair.specs.Theorem.{Given}
 use Rattle.pair.proofs.Theorem.{checker-theorem}
 use Rattle.finder.specs.Finder.{pairNumber, findNumber, findS, findR, findOutputS, findOutputR}
 use Rattle.finder.proofs.Theorem.{demand-3}

@@ -17,7 +17,7 @@ use mathlib.Core.List.{List, [], _∷_, _++_}
 use Prim.Native.Nat.{ℕ, zero, suc, _+_, _*_, _/_, _%_}
 use lib.Dec.{ltb, eqb}
 use lib.ListN.{take, drop, replicate}
-use Rattle.modular.specs.Refusal.{refuse}
+use Rattle.refusal.specs.Refusal.{refuse}
 use Rattle.card.specs.Card.{card, cardPrime, cardDegree, cardKind, cardWords, readNumber}
 use Rattle.finder.specs.Finder.{findS, findR, pairNumber}
 use Rattle.pair.specs.Pair.{accepts}

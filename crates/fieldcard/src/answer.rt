@@ -5,7 +5,8 @@ ghost use lib.ListN.{length, replicate, take};
 ghost use Rattle.card.specs.Card.{card, cardLength, writeNumber};
 ghost use Rattle.io.specs.Counts.{Counts};
 ghost use Rattle.pair.specs.Pair.{checkNumber};
-ghost use Rattle.pair.specs.Theorem.{Models, Given};
+ghost use Rattle.refusal.specs.Models.{Models};
+ghost use Rattle.pair.specs.Theorem.{Given};
 ghost use Rattle.fieldcard.specs.Answer.{answerText, jobText, pairCardText, pairText, part};
 ghost use Rattle.fieldcard.specs.Text.{Begins};
 use crate::job::find_pair;
@@ -13,11 +14,12 @@ use crate::job::write_card;
 use crate::text::put_pair;
 use crate::text::put_refusal;
 use crate::text::put_valid;
+use array::Word;
 use card::reader::read;
 use pair::checker::check;
 
 // The line of the pair card of the words, to which no refusal of the writer applies.
-fn print_card(p: u32, n: u32, words: &[u16], text: &mut [u8]) -> usize
+fn print_card(p: u32, n: u32, words: &[Word], text: &mut [u8]) -> usize
     requires { ⌜ (writeNumber p n 2 (now words) (replicate (cardLength p n 2) 0) ≡ 0) × (268 ≤ length (now text)) ⌝ }
     ensures { λ r. ⌜ Begins (pairText (card p n 2 (now (words .entry)))) (now (text .exit)) r ⌝ }
 {
@@ -27,7 +29,7 @@ fn print_card(p: u32, n: u32, words: &[u16], text: &mut [u8]) -> usize
 }
 
 // A job: the words begin with T1 and T2.
-fn answer_job(p: u32, n: u32, words: &mut [u16], text: &mut [u8]) -> usize
+fn answer_job(p: u32, n: u32, words: &mut [Word], text: &mut [u8]) -> usize
     requires { ⌜ (n ≤ 16) × (length (now words) ≡ 64) × (268 ≤ length (now text)) × Models p n (part n (now words) 0) (part n (now words) 1) ⌝ }
     ensures { λ r. ⌜ Begins (jobText p n (part n (now (words .entry)) 0) (part n (now (words .entry)) 1)) (now (text .exit)) r ⌝ }
 {
@@ -39,7 +41,7 @@ fn answer_job(p: u32, n: u32, words: &mut [u16], text: &mut [u8]) -> usize
 }
 
 // The checker's call for T1, T2, S and R, the first four parts of the words.
-fn check_in(p: u32, n: u32, words: &[u16]) -> u32
+fn check_in(p: u32, n: u32, words: &[Word]) -> u32
     requires { ⌜ (n ≤ 16) × (length (now words) ≡ 64) ⌝ }
     ensures { λ number. ⌜ number ≡
         checkNumber p n (part n (now (words .entry)) 0) (part n (now (words .entry)) 1) (part n (now (words .entry)) 2) (part n (now (words .entry)) 3) ⌝ }
@@ -56,7 +58,7 @@ fn check_in(p: u32, n: u32, words: &[u16]) -> u32
 }
 
 // A pair card: the words begin with T1, T2, S and R.
-fn answer_pair(p: u32, n: u32, words: &[u16], text: &mut [u8]) -> usize
+fn answer_pair(p: u32, n: u32, words: &[Word], text: &mut [u8]) -> usize
     requires { ⌜ (n ≤ 16) × (length (now words) ≡ 64) × (268 ≤ length (now text))
         × Given p n (part n (now words) 0) (part n (now words) 1) (part n (now words) 2) (part n (now words) 3) ⌝ }
     ensures { λ r. ⌜ Begins
@@ -75,7 +77,7 @@ pub fn answer(card: &[u8], text: &mut [u8; 268]) -> usize
     ensures text { λ r. ⌜ take r (now (text .exit)) ≡ answerText (now (card .entry)) ⌝ }
     ensures count { λ r. ⌜ Counts r (now (text .exit)) ⌝ }
 {
-    let mut words = [0u16; 64];
+    let mut words = [0; 64];
     let head = read(card, &mut words);
     if head.number != 0 {
         return put_refusal(text, head.number);

@@ -5,17 +5,18 @@ ghost use Prim.Native.Nat.{_+_, _*_, _≤_};
 ghost use lib.ListN.{length, replicate};
 ghost use Rattle.card.specs.Card.{card, cardLength, writeNumber};
 ghost use Rattle.finder.specs.Finder.{findNumber, findOutputS, findOutputR};
-ghost use Rattle.pair.specs.Theorem.{Models};
+ghost use Rattle.refusal.specs.Models.{Models};
 ghost use Rattle.fieldcard.specs.Answer.{part};
 ghost use Rattle.fieldcard.specs.Found.{Found};
 ghost use Rattle.fieldcard.specs.Text.{Appended, Begins};
+use array::Word;
 use card::layout::bit_count;
 use card::layout::width;
 use card::writer::write;
 use finder::find::find;
 
 // The words of xs from the place `at` on: the place behind them.
-fn put_words(words: &mut [u16], at: usize, xs: &[u16]) -> usize
+fn put_words(words: &mut [Word], at: usize, xs: &[Word]) -> usize
     requires { ⌜ at + length (now xs) ≤ length (now words) ⌝ }
     ensures { λ r. ⌜ Appended at (now (xs .entry)) (now (words .entry)) (now (words .exit)) r ⌝ }
 {
@@ -30,7 +31,7 @@ fn put_words(words: &mut [u16], at: usize, xs: &[u16]) -> usize
 }
 
 // The words of s and then those of r from the place `at` on.
-fn put_both(words: &mut [u16], at: usize, s: &[u16], r: &[u16]) -> usize
+fn put_both(words: &mut [Word], at: usize, s: &[Word], r: &[Word]) -> usize
     requires { ⌜ at + (length (now s) + length (now r)) ≤ length (now words) ⌝ }
     ensures { λ end. ⌜ Appended at (now (s .entry) ++ now (r .entry)) (now (words .entry)) (now (words .exit)) end ⌝ }
 {
@@ -39,7 +40,7 @@ fn put_both(words: &mut [u16], at: usize, s: &[u16], r: &[u16]) -> usize
 }
 
 // The finder's call for T1 and T2, the first two parts of the words.
-fn find_in(p: u32, n: u32, words: &[u16], s: &mut [u16], r: &mut [u16]) -> u32
+fn find_in(p: u32, n: u32, words: &[Word], s: &mut [Word], r: &mut [Word]) -> u32
     requires { ⌜ (n ≤ 16) × (length (now words) ≡ 64) ⌝ }
     ensures { λ number. ⌜ number ≡ findNumber p n (part n (now (words .entry)) 0) (part n (now (words .entry)) 1) (now (s .entry)) (now (r .entry)) ⌝ }
     ensures { λ _. ⌜ now (s .exit) ≡ findOutputS p n (part n (now (words .entry)) 0) (part n (now (words .entry)) 1) (now (s .entry)) (now (r .entry)) ⌝ }
@@ -50,7 +51,7 @@ fn find_in(p: u32, n: u32, words: &[u16], s: &mut [u16], r: &mut [u16]) -> u32
 }
 
 // The finder's pair for T1 and T2, by way of two lists of n words, behind T1 and T2.
-fn find_behind(p: u32, n: u32, words: &mut [u16], s: &mut [u16], r: &mut [u16]) -> u32
+fn find_behind(p: u32, n: u32, words: &mut [Word], s: &mut [Word], r: &mut [Word]) -> u32
     requires { ⌜ (n ≤ 16) × (length (now words) ≡ 64) × (length (now s) ≡ n) × (length (now r) ≡ n)
         × Models p n (part n (now words) 0) (part n (now words) 1) ⌝ }
     ensures { λ number. ⌜ Found p n (now (words .entry)) (now (words .exit)) number ⌝ }
@@ -61,18 +62,18 @@ fn find_behind(p: u32, n: u32, words: &mut [u16], s: &mut [u16], r: &mut [u16]) 
 }
 
 // The finder's pair for T1 and T2, the first words, behind them: 0, or the number of the refusal.
-pub fn find_pair(p: u32, n: u32, words: &mut [u16]) -> u32
+pub fn find_pair(p: u32, n: u32, words: &mut [Word]) -> u32
     requires { ⌜ (n ≤ 16) × (length (now words) ≡ 64) × Models p n (part n (now words) 0) (part n (now words) 1) ⌝ }
     ensures { λ number. ⌜ Found p n (now (words .entry)) (now (words .exit)) number ⌝ }
 {
     let k = n as usize;
-    let mut s = [0u16; 16];
-    let mut r = [0u16; 16];
+    let mut s = [0; 16];
+    let mut r = [0; 16];
     find_behind(p, n, words, &mut s[..k], &mut r[..k])
 }
 
 // The pair card of the words, to which no refusal of the writer applies: how many bytes it has.
-pub fn write_card(p: u32, n: u32, words: &[u16], out: &mut [u8]) -> usize
+pub fn write_card(p: u32, n: u32, words: &[Word], out: &mut [u8]) -> usize
     requires { ⌜ (writeNumber p n 2 (now words) (replicate (cardLength p n 2) 0) ≡ 0) × (length (now out) ≡ 131) ⌝ }
     ensures { λ r. ⌜ Begins (card p n 2 (now (words .entry))) (now (out .exit)) r ⌝ }
 {

@@ -9,22 +9,25 @@ use Rattle.algebra.specs.Prime.{Prime}
 use Rattle.pair.specs.Pair.{Congruences}
 use Rattle.pair.proofs.TwoCongruences.{two-congruences}
 use Rattle.quotient.specs.Divisor.{HasDivisor}
-use Rattle.quotient.specs.Residue.{Words, scale, constant, power, substitute, modulusAt}
-use Rattle.quotient.proofs.Words.{scale-words, substitute-words}
-use Rattle.finder.specs.Finder.{zeta, alpha, powerConstant, rootOfRatio, express, findS, findR}
-use Rattle.finder.specs.Theorem.{Smallest, Eigenvector, ChosenPair}
-use Rattle.finder.specs.Root.{OrderModulo}
-use Rattle.finder.specs.System.{Independent}
-use Rattle.finder.proofs.Alpha.{alpha-is, alpha-kernel, alpha-independent, alpha-constant}
+use Rattle.array.specs.Words.{Words}
+use Rattle.quotient.specs.Residue.{scale, constant, power, substitute, modulusAt}
+use Rattle.quotient.proofs.Operations.{scale-words, substitute-words}
+use Rattle.roots.specs.Roots.{zeta, rootOfRatio, OrderModulo}
+use Rattle.galois.specs.Eigenvector.{alpha, powerConstant, Eigenvector}
+use Rattle.galois.specs.Express.{express, Independent}
+use Rattle.finder.specs.Finder.{findS, findR}
+use Rattle.finder.specs.Theorem.{ChosenPair}
+use Rattle.algebra.specs.Search.{Smallest}
+use Rattle.galois.proofs.Alpha.{alpha-is, alpha-kernel, alpha-independent, alpha-constant}
 use Rattle.finder.proofs.Construction.{root-independent, root-of-t1, powers-of-s-independent}
-use Rattle.finder.proofs.Express.{express-is}
-use Rattle.finder.proofs.Irreducible.{constant-root, kernel-independent, eigenvector-unique}
-use Rattle.finder.proofs.KernelVector.{KernelVector, kernel-of-eigenvector}
-use Rattle.finder.proofs.NoDivisor.{constant-positive, no-divisor}
-use Rattle.finder.proofs.RootOfRatio.{root-of-ratio-is}
-use Rattle.finder.proofs.ResidueConstants.{constant-injective, constant-is-word}
-use Rattle.finder.proofs.Smallest.{smallest-unique}
-use Rattle.finder.proofs.Zeta.{zeta-is}
+use Rattle.galois.proofs.Express.{express-is}
+use Rattle.galois.proofs.Irreducible.{constant-root, kernel-independent, eigenvector-unique}
+use Rattle.galois.proofs.KernelVector.{KernelVector, kernel-of-eigenvector}
+use Rattle.galois.proofs.NoDivisor.{constant-positive, no-divisor}
+use Rattle.roots.proofs.RootOfRatio.{root-of-ratio-is}
+use Rattle.galois.proofs.ResidueConstants.{constant-injective, constant-is-word}
+use Rattle.algebra.proofs.Smallest.{smallest-unique}
+use Rattle.roots.proofs.Zeta.{zeta-is}
 
 module _ {p n : ℕ} {t1 t2 : List ℕ} (prime : Prime p) (w1 : Words p (suc n) t1) (w2 : Words p (suc n) t2) where
   module _ {s r : List ℕ} (h : ChosenPair p (suc n) t1 t2 s r) where

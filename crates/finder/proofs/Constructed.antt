@@ -8,21 +8,24 @@ use native.Mathlib.Omega.{arith}
 use lib.ListN.{take}
 use borrow.Author.Tests.{not-false, eq-eqb, ne-eqb}
 use Rattle.algebra.specs.Prime.{Prime}
-use Rattle.modular.specs.Refusal.{refuse}
+use Rattle.refusal.specs.Refusal.{refuse}
 use Rattle.quotient.specs.DivisorTest.{hasDivisor}
-use Rattle.quotient.specs.Residue.{Words, scale, substitute}
-use Rattle.quotient.proofs.Words.{scale-words}
-use Rattle.quotient.specs.Array.{padded, Holds}
-use Rattle.quotient.proofs.Padded.{front-is, holds-is}
+use Rattle.array.specs.Words.{Words}
+use Rattle.quotient.specs.Residue.{scale, substitute}
+use Rattle.quotient.proofs.Operations.{scale-words}
+use Rattle.array.specs.Array.{padded, Holds}
+use Rattle.array.proofs.Padded.{front-is, holds-is}
 use Rattle.finder.specs.Construct.{Choices, FoundPair}
-use Rattle.finder.specs.Finder.{zeta, alpha, powerConstant, rootOfRatio, express, findS, findR, pairNumber}
-use Rattle.finder.specs.Kernel.{Answer}
-use Rattle.finder.specs.Root.{Admissible, OrderModulo, Solvable}
-use Rattle.finder.specs.System.{Independent}
-use Rattle.finder.proofs.Express.{express-is}
-use Rattle.finder.proofs.Values.{alpha-words, alpha-powers, alpha-power, root-of-ratio-smallest, find-s-independent}
-use Rattle.finder.proofs.Zeta as Zeta
-use Rattle.finder.proofs.KernelAnswer.{not-not}
+use Rattle.roots.specs.Roots.{zeta, rootOfRatio, Admissible, OrderModulo, Solvable}
+use Rattle.galois.specs.Eigenvector.{alpha, powerConstant}
+use Rattle.galois.specs.Express.{express, Independent}
+use Rattle.finder.specs.Finder.{findS, findR, pairNumber}
+use Rattle.frobenius.specs.Kernel.{Answer}
+use Rattle.galois.proofs.Express.{express-is}
+use Rattle.galois.proofs.KernelDecides.{alpha-words, alpha-powers, alpha-power}
+use Rattle.finder.proofs.Values.{root-of-ratio-smallest, find-s-independent}
+use Rattle.roots.proofs.Zeta as Zeta
+use Rattle.frobenius.proofs.KernelAnswer.{not-not}
 
 -- the number where n divides p − 1
 number-from : (p n : ℕ) (t1 t2 : List ℕ) → Admissible p n → {c d : Bool} → hasDivisor p t1 ≡ c → hasDivisor p t2 ≡ d → pairNumber p n t1 t2 ≡ refuse 6 c (refuse 7 d 0)

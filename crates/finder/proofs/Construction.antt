@@ -11,21 +11,22 @@ use Rattle.algebra.specs.Ring as Ring
 use Rattle.algebra.proofs.Frobenius.{numeral-mod}
 use Rattle.algebra.proofs.RingLaws.{zero-mul, eq-of-sub-zero, numeral-add, numeral-mul, power-product}
 use Rattle.quotient.specs.Divisor.{HasDivisor}
-use Rattle.quotient.specs.Residue.{Words, Residue, scale, constant, power, residueOfX, substitute, modulusAt}
+use Rattle.array.specs.Words.{Words}
+use Rattle.quotient.specs.Residue.{Residue, scale, constant, power, residueOfX, substitute, modulusAt}
 use Rattle.quotient.proofs.Evaluation.{evaluate-monic}
 use Rattle.quotient.proofs.Field.{residueField}
 use Rattle.quotient.proofs.Reduction.{characteristic, zero-is, scale-is}
 use Rattle.quotient.proofs.Ring.{residueRing}
 use Rattle.quotient.proofs.Substitution.{Homomorphism, homomorphism-zero, evaluate-homomorphism, modulusAt-is, substitute-is}
-use Rattle.quotient.proofs.Words.{residue-path, scale-words, constant-words, substitute-words}
-use Rattle.finder.specs.Root.{OrderModulo}
-use Rattle.finder.specs.System.{Independent}
-use Rattle.finder.proofs.Irreducible.{kernel-independent}
-use Rattle.finder.proofs.KernelVector.{KernelVector}
-use Rattle.finder.proofs.NoDivisor.{constant-positive, no-divisor}
-use Rattle.finder.proofs.ResidueConstants.{ring-proper, constant-length, constant-is-word, evaluate-constant, power-numeral}
-use Rattle.finder.proofs.Transfer.{transfer-root}
-use Rattle.finder.proofs.Zeta.{numeral-power}
+use Rattle.quotient.proofs.Operations.{residue-path, scale-words, constant-words, substitute-words}
+use Rattle.roots.specs.Roots.{OrderModulo}
+use Rattle.galois.specs.Express.{Independent}
+use Rattle.galois.proofs.Irreducible.{kernel-independent}
+use Rattle.galois.proofs.KernelVector.{KernelVector}
+use Rattle.galois.proofs.NoDivisor.{constant-positive, no-divisor}
+use Rattle.galois.proofs.ResidueConstants.{ring-proper, constant-length, constant-is-word, evaluate-constant, power-numeral}
+use Rattle.galois.proofs.Transfer.{transfer-root}
+use Rattle.roots.proofs.Zeta.{numeral-power}
 
 -- a homomorphism out of a field is injective: φ(d) = 0 for d ≠ 0 would give φ(1) = φ(d)·φ(1/d) = 0
 module _ {A B : Type 0} (F : Field A) (S : CommutativeRing B) (proper : S .one ≡ S .zero → ⊥) {f : A → B} (h : Homomorphism (F .ring) S f) where

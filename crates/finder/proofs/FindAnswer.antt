@@ -10,21 +10,22 @@ use lib.ListN.{length, take}
 use borrow.Author.Tests.{eq-eqb, eqb-true, not-false}
 use Rattle.algebra.specs.Lists.{Member, all}
 use Rattle.algebra.proofs.Search.{member-of-all}
-use Rattle.modular.specs.Refusal.{refuseSent, badLength, written}
+use Rattle.refusal.specs.Refusal.{refuseSent, badLength, written}
 use Rattle.quotient.specs.DivisorTest.{hasDivisor}
-use Rattle.quotient.specs.Residue.{Words}
-use Rattle.modular.proofs.Refusal.{refuse-none, Sent, sent-given, given-sent, sent-stays}
-use Rattle.quotient.proofs.Refusal.{words-given}
-use Rattle.quotient.proofs.Words.{words-length}
-use Rattle.quotient.specs.Array.{padded, Holds}
-use Rattle.residue.proofs.Answers.{output-new, output-old, words-up}
-use Rattle.quotient.proofs.Padded.{front-is, holds-is}
-use Rattle.residue.proofs.Refusals.{word-twice}
+use Rattle.array.specs.Words.{Words}
+use Rattle.refusal.proofs.Refusal.{refuse-none, Sent, sent-given, given-sent, sent-stays}
+use Rattle.refusal.proofs.Lists.{words-given}
+use Rattle.array.proofs.Words.{words-length}
+use Rattle.array.specs.Array.{padded, Holds}
+use Rattle.refusal.proofs.Written.{output-new, output-old}
+use Rattle.array.proofs.Words.{words-up}
+use Rattle.array.proofs.Padded.{front-is, holds-is}
+use Rattle.arithmetic.proofs.Refusals.{word-twice}
 use Rattle.finder.specs.Construct.{FoundPair}
 use Rattle.finder.specs.Finder.{findS, findR, pairNumber, findNumber, findOutputS, findOutputR}
-use Rattle.finder.specs.System.{Independent}
-use Rattle.pair.specs.Theorem.{Models}
-use Rattle.finder.proofs.Express.{express-is}
+use Rattle.galois.specs.Express.{Independent}
+use Rattle.refusal.specs.Models.{Models}
+use Rattle.galois.proofs.Express.{express-is}
 use Rattle.finder.proofs.Values.{find-s-independent}
 
 -- a list that is named twice adds no refusal

@@ -4,7 +4,7 @@
 --   Returned p n t1 t2   what the answer 0 says of two models
 --   decided              where n divides p − 1, what 6 and 7 say is the answer
 use mathlib.Core.Path.{_≡_, refl, sym, ap, ap₂, subst₂, _∙_}
-use mathlib.Core.Bool.{Bool, true, false, not, _&&_}
+use mathlib.Core.Bool.{_&&_, Bool, true, false, not}
 use mathlib.Core.List.{List, [], _∷_}
 use mathlib.Core.Logic.{_↔_}
 use Prim.Native.Nat.{ℕ, zero, suc, _-_, _%_}
@@ -12,21 +12,21 @@ use native.Mathlib.Omega.{arith}
 use lib.ListN.{length}
 use borrow.Author.Tests.{eq-eqb}
 use Rattle.algebra.specs.Lists.{all}
-use Rattle.modular.specs.Refusal.{refuse, badLength, written}
+use Rattle.refusal.specs.Refusal.{refuse, badLength, written}
 use Rattle.pair.specs.Pair.{checkNumber}
-use Rattle.pair.specs.Theorem.{Models}
+use Rattle.refusal.specs.Models.{Models}
 use Rattle.pair.proofs.Theorem.{checker-theorem}
 use Rattle.quotient.specs.Divisor.{HasDivisor}
 use Rattle.quotient.specs.DivisorTest.{hasDivisor}
-use Rattle.modular.proofs.Refusal.{sent-given, given-sent}
+use Rattle.refusal.proofs.Refusal.{sent-given, given-sent}
 use Rattle.quotient.proofs.Decision.{test-has-divisor, has-divisor-test}
-use Rattle.quotient.proofs.Refusal.{given-words}
-use Rattle.quotient.proofs.Words.{words-length}
+use Rattle.refusal.proofs.Lists.{given-words}
+use Rattle.array.proofs.Words.{words-length}
 use Rattle.finder.specs.Finder.{findS, findR, findNumber, findOutputS, findOutputR}
 use Rattle.finder.specs.Theorem.{ChosenPair, Demand3Theorem}
 use Rattle.finder.proofs.ChosenPair.{chosen-words, chosen-congruences, chosen-unique, found-chosen}
 use Rattle.finder.proofs.FindAnswer.{none-apply}
-use Rattle.finder.proofs.Values.{test-irreducible, irreducible-test}
+use Rattle.galois.proofs.KernelDecides.{test-irreducible, irreducible-test}
 
 record Returned (p n : ℕ) (t1 t2 : List ℕ) : Type 0 where
   divides : (p - 1) % n ≡ 0

@@ -6,8 +6,10 @@ use mathlib.Core.Bool.{false}
 use mathlib.Core.List.{List}
 use Prim.Native.Nat.{ℕ, _<_}
 use Rattle.quotient.specs.DivisorTest.{hasDivisor}
-use Rattle.quotient.specs.Array.{padded}
-use Rattle.finder.specs.Finder.{zeta, alpha, powerConstant, rootOfRatio, findS, findR, pairNumber}
+use Rattle.array.specs.Array.{padded}
+use Rattle.roots.specs.Roots.{zeta, rootOfRatio}
+use Rattle.galois.specs.Eigenvector.{alpha, powerConstant}
+use Rattle.finder.specs.Finder.{findS, findR, pairNumber}
 
 pub record Choices (p n : ℕ) (t1 t2 : List ℕ) (c : ℕ) (x y : List ℕ) : Type 0 where
   pub irreducible1 : hasDivisor p t1 ≡ false

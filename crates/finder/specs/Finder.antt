@@ -9,39 +9,16 @@
 --   findR p n t1 t2         the one polynomial R of degree below n with R(S) = X mod T2
 --   pairNumber p n t1 t2    5 where n does not divide p − 1, 6 and 7 where T1 and T2 have a monic divisor of degree 1 to n − 1; 0 otherwise
 --   findNumber …            the finder's answer: 1 to 4, then these, or 0 where it returns the pair
-use mathlib.Core.Bool.{Bool, true, false, _&&_, not}
+use mathlib.Core.Bool.{not}
 use mathlib.Core.List.{List, [], _∷_}
-use Prim.Native.Nat.{ℕ, _-_, _*_, _%_, _^_}
+use Prim.Native.Nat.{ℕ, _-_, _%_}
 use lib.Dec.{eqb}
-use lib.ListN.{length, getD}
-use Rattle.algebra.specs.Lists.{all, equal, range, first}
-use Rattle.modular.specs.Refusal.{refuse, refuseSent, written}
+use Rattle.refusal.specs.Refusal.{refuse, refuseSent, written}
 use Rattle.quotient.specs.DivisorTest.{hasDivisor}
-use Rattle.quotient.specs.Residue.{residues, scale, constant, power, residueOfX, substitute}
-
-unfoldable pub zeta : ℕ → ℕ → ℕ
-zeta p n = first (λ z. eqb (z ^ n % p) 1 && all (λ m. not (eqb (z ^ m % p) 1)) (range 1 (n - 1))) 0 (range 1 (p - 1))
-
-unfoldable pub firstNonZero : List ℕ → ℕ
-firstNonZero [] = 0
-firstNonZero (a ∷ u) = elim (eqb a 0) [ true ↦ firstNonZero u | false ↦ a ]
-
--- the first residue modulo T that passes a test; 0 where none does
-unfoldable pub firstResidue : ℕ → List ℕ → (List ℕ → Bool) → List ℕ
-firstResidue p t test = first test (constant (length t) 0) (residues p (length t))
-
-unfoldable pub alpha : ℕ → List ℕ → ℕ → List ℕ
-alpha p t z =
-    firstResidue p t (λ a. not (equal a (constant (length t) 0)) && equal (power p t a p) (scale p z a) && eqb (firstNonZero a) 1)
-
-unfoldable pub powerConstant : ℕ → List ℕ → List ℕ → ℕ
-powerConstant p t a = getD (power p t a (length t)) 0 0
-
-unfoldable pub rootOfRatio : ℕ → ℕ → ℕ → ℕ → ℕ
-rootOfRatio p n a1 a2 = first (λ c. eqb (c ^ n * a2 % p) a1) 0 (range 1 (p - 1))
-
-unfoldable pub express : ℕ → List ℕ → List ℕ → List ℕ
-express p t a = firstResidue p t (λ f. equal (substitute p t a f) (residueOfX p t))
+use Rattle.quotient.specs.Residue.{scale, substitute}
+use Rattle.roots.specs.Roots.{zeta, rootOfRatio}
+use Rattle.galois.specs.Eigenvector.{alpha, powerConstant}
+use Rattle.galois.specs.Express.{express}
 
 unfoldable pub findS : ℕ → ℕ → List ℕ → List ℕ → List ℕ
 findS p n t1 t2 =

@@ -16,19 +16,14 @@ use mathlib.Core.Logic.{_↔_}
 use Prim.Native.Nat.{ℕ, _-_, _*_, _%_, _^_, _≤_, _<_}
 use lib.ListN.{length}
 use Rattle.pair.specs.Pair.{checkNumber}
-use Rattle.pair.specs.Theorem.{Models, Isomorphisms}
+use Rattle.refusal.specs.Models.{Models}
+use Rattle.pair.specs.Theorem.{Isomorphisms}
 use Rattle.quotient.specs.Divisor.{HasDivisor}
-use Rattle.quotient.specs.Residue.{Words, scale, constant, power, residueOfX, substitute}
-use Rattle.finder.specs.Finder.{firstNonZero, findNumber, findOutputS, findOutputR}
-
-abbrev pub Smallest : (ℕ → Type 0) → ℕ → ℕ → Type 0
-Smallest P p k = (1 ≤ k) × (k < p) × P k × ((j : ℕ) → 1 ≤ j → j < k → P j → ⊥)
-
-pub record Eigenvector (p : ℕ) (t : List ℕ) (z : ℕ) (a : List ℕ) : Type 0 where
-  pub words : Words p (length t) a
-  pub not-zero : a ≡ constant (length t) 0 → ⊥
-  pub power-is : power p t a p ≡ scale p z a
-  pub firstNonZero-is : firstNonZero a ≡ 1
+use Rattle.array.specs.Words.{Words}
+use Rattle.quotient.specs.Residue.{scale, constant, power, residueOfX, substitute}
+use Rattle.algebra.specs.Search.{Smallest}
+use Rattle.galois.specs.Eigenvector.{Eigenvector}
+use Rattle.finder.specs.Finder.{findNumber, findOutputS, findOutputR}
 
 pub record ChosenPair (p n : ℕ) (t1 t2 s r : List ℕ) : Type 0 where
   pub z : ℕ

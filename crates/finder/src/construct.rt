@@ -4,18 +4,18 @@ ghost use mathlib.Core.Path.{_≡_};
 ghost use Prim.Native.Nat.{_^_, _≤_, _<_};
 ghost use lib.ListN.{length, take};
 ghost use Rattle.algebra.specs.Prime.{Prime};
-ghost use Rattle.quotient.specs.Array.{padded, Holds};
+ghost use Rattle.array.specs.Array.{padded, Holds};
 ghost use Rattle.finder.specs.Construct.{Choices, FoundPair};
-ghost use Rattle.finder.specs.Finder.{zeta as zetaOf, findS};
-ghost use Rattle.finder.specs.Kernel.{Answer};
-ghost use Rattle.finder.specs.Root.{Admissible};
-use crate::frobenius::Alpha;
-use crate::frobenius::eigenvector;
-use crate::root::root_of_ratio;
-use crate::system::express;
-use crate::unity::zeta;
-use crate::vector::scale;
+ghost use Rattle.roots.specs.Roots.{zeta as zetaOf, Admissible};
+ghost use Rattle.finder.specs.Finder.{findS};
+ghost use Rattle.frobenius.specs.Kernel.{Answer};
+use frobenius::eigenvector::Alpha;
+use frobenius::eigenvector::eigenvector;
+use frobenius::express::express;
+use frobenius::vector::scale;
 use residue::ring::substitute;
+use roots::root::root_of_ratio;
+use roots::unity::zeta;
 
 // S = P1(c·α2) modulo T2, with P1(α1) = X modulo T1.
 fn forward(

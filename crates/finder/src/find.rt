@@ -2,22 +2,23 @@
 ghost use mathlib.Core.List.{[], _∷_};
 ghost use mathlib.Core.Path.{_≡_};
 ghost use lib.ListN.{length};
-ghost use Rattle.modular.specs.Refusal.{refuseSent, written};
+ghost use Rattle.refusal.specs.Refusal.{refuseSent, written};
 ghost use Rattle.finder.specs.Construct.{FoundPair};
 ghost use Rattle.finder.specs.Finder.{findS, findR, pairNumber, findNumber, findOutputS, findOutputR};
-ghost use Rattle.pair.specs.Theorem.{Models};
+ghost use Rattle.refusal.specs.Models.{Models};
 use crate::construct::Found;
 use crate::construct::find_pair;
+use arithmetic::refusal::bad_degree;
+use arithmetic::refusal::bad_length;
+use arithmetic::refusal::bad_word;
+use arithmetic::refusal::first;
+use array::Word;
+use array::copy::load;
+use array::copy::store;
 use modular::prime::is_prime;
-use residue::array::load;
-use residue::array::store;
-use residue::refusal::bad_degree;
-use residue::refusal::bad_length;
-use residue::refusal::bad_word;
-use residue::refusal::first;
 
 // The number of the first refusal from 1 to 4 that applies, 0 where none does.
-fn refusal(p: u32, n: u32, t1: &[u16], t2: &[u16], s: &[u16], r: &[u16]) -> u32
+fn refusal(p: u32, n: u32, t1: &[Word], t2: &[Word], s: &[Word], r: &[Word]) -> u32
     ensures { λ number. ⌜ number ≡ refuseSent p n (now (t1 .entry) ∷ now (t2 .entry) ∷ now (s .entry) ∷ now (r .entry) ∷ [])
         (now (t1 .entry) ∷ now (t2 .entry) ∷ []) 0 ⌝ }
 {
@@ -30,7 +31,7 @@ fn refusal(p: u32, n: u32, t1: &[u16], t2: &[u16], s: &[u16], r: &[u16]) -> u32
 }
 
 // The answer on lists to which none of the refusals 1 to 4 applies.
-fn answer(p: u32, n: u32, t1: &[u16], t2: &[u16]) -> Found
+fn answer(p: u32, n: u32, t1: &[Word], t2: &[Word]) -> Found
     requires { ⌜ Models p n (now t1) (now t2) ⌝ }
     ensures { λ r. ⌜ FoundPair p n (now (t1 .entry)) (now (t2 .entry)) (r .number) (r .forward) (r .backward) ⌝ }
 {
@@ -38,7 +39,7 @@ fn answer(p: u32, n: u32, t1: &[u16], t2: &[u16]) -> Found
 }
 
 // Writes the pair, if there is one, for lists to which none of the refusals 1 to 4 applies.
-fn write_pair(p: u32, n: u32, t1: &[u16], t2: &[u16], s: &mut [u16], r: &mut [u16]) -> u32
+fn write_pair(p: u32, n: u32, t1: &[Word], t2: &[Word], s: &mut [Word], r: &mut [Word]) -> u32
     requires { ⌜ Models p n (now t1) (now t2) ⌝ }
     requires { ⌜ (length (now s) ≡ n) × (length (now r) ≡ n) ⌝ }
     ensures { λ number. ⌜ number ≡ pairNumber p n (now (t1 .entry)) (now (t2 .entry)) ⌝ }
@@ -56,7 +57,7 @@ fn write_pair(p: u32, n: u32, t1: &[u16], t2: &[u16], s: &mut [u16], r: &mut [u1
 }
 
 // The pair of Algorithm 2.1 for the models p, n, T1 and p, n, T2, with the choices of document 01: S into s and R into r.
-pub fn find(p: u32, n: u32, t1: &[u16], t2: &[u16], s: &mut [u16], r: &mut [u16]) -> u32
+pub fn find(p: u32, n: u32, t1: &[Word], t2: &[Word], s: &mut [Word], r: &mut [Word]) -> u32
     ensures { λ number. ⌜ number ≡ findNumber p n (now (t1 .entry)) (now (t2 .entry)) (now (s .entry)) (now (r .entry)) ⌝ }
     ensures { λ _. ⌜ now (s .exit) ≡ findOutputS p n (now (t1 .entry)) (now (t2 .entry)) (now (s .entry)) (now (r .entry)) ⌝ }
     ensures { λ _. ⌜ now (r .exit) ≡ findOutputR p n (now (t1 .entry)) (now (t2 .entry)) (now (s .entry)) (now (r .entry)) ⌝ }

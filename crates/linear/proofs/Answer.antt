@@ -7,13 +7,13 @@ use native.Mathlib.Nat.{mod-eq-of-lt, zero-mod}
 use native.Mathlib.Omega.{arith}
 use lib.ListN.{length, getD, take}
 use lib.Seq.{getD-take}
-use Rattle.quotient.specs.Residue.{Words}
+use Rattle.array.specs.Words.{Words}
 use Rattle.linear.proofs.Pivoting.{equivalent-refl, equivalent-trans}
 use Rattle.linear.proofs.Sum.{product-single}
 use Rattle.linear.proofs.Vectors.{zero-beyond, holds-of, holds-past}
-use Rattle.quotient.specs.Array.{rowProduct, Holds, Square}
-use Rattle.quotient.proofs.Words.{words-length, words-same, zeros-words}
-use Rattle.quotient.proofs.Padded.{array-length, words-at, holds-word}
+use Rattle.array.specs.Array.{rowProduct, Holds, Square}
+use Rattle.array.proofs.Words.{words-length, words-same, zeros-words}
+use Rattle.array.proofs.Padded.{array-length, words-at, holds-word}
 use Rattle.linear.specs.System.{Solves, Regular, Singular, Outcome}
 use Rattle.linear.specs.Elimination.{Reduction, Identity, Reduced, SolvesTimes, Equivalent, Advanced, Pivot}
 

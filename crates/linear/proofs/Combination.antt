@@ -10,7 +10,7 @@ use native.Mathlib.Decide.{ℕ-discrete}
 use native.Mathlib.Omega.{arith}
 use lib.ListN.{length, getD}
 use Rattle.linear.proofs.Congruence.{sum-congruent, product-congruent}
-use Rattle.quotient.specs.Array.{entry, rowProduct}
+use Rattle.array.specs.Array.{entry, rowProduct}
 use Rattle.linear.specs.Elimination.{SolvesTimes, Equivalent}
 
 -- One column more: (a·e + f·g)·w joins a·r + f·s.

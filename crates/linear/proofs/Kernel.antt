@@ -10,8 +10,8 @@ use lib.ListN.{length, getD, take, set, replicate, length-set}
 use lib.Seq.{getD-set-same, getD-set-other, getD-take}
 use Rattle.linear.proofs.Sum.{product-zero, product-double}
 use Rattle.linear.proofs.Vectors.{zero-beyond, holds-of}
-use Rattle.quotient.specs.Array.{entry, rowProduct, Holds}
-use Rattle.quotient.proofs.Words.{words-length}
+use Rattle.array.specs.Array.{entry, rowProduct, Holds}
+use Rattle.array.proofs.Words.{words-length}
 use Rattle.linear.specs.System.{Singular}
 use Rattle.linear.specs.Elimination.{Identity, Pivot}
 

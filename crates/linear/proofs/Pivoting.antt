@@ -10,7 +10,7 @@ use native.Mathlib.Omega.{arith}
 use Rattle.algebra.specs.Prime.{Prime}
 use Rattle.modular.proofs.Inverse.{inverse-product}
 use Rattle.modular.specs.Inverse.{inverse}
-use Rattle.quotient.specs.Array.{entry}
+use Rattle.array.specs.Array.{entry}
 use Rattle.linear.specs.Elimination.{Reduced, Equivalent, RowStep, Advanced, Prepared, Pivot}
 
 pub record Scanned (n c : ℕ) (m : List ℕ) (i : ℕ) : Type 0 where

@@ -7,7 +7,7 @@ use native.Mathlib.Omega.{arith}
 use lib.ListN.{getD, set}
 use Rattle.algebra.proofs.Modulo.{mod-mul-mod}
 use Rattle.linear.proofs.Write.{Written, written-turn, written-next}
-use Rattle.quotient.specs.Array.{entry}
+use Rattle.array.specs.Array.{entry}
 use Rattle.linear.specs.Elimination.{Reduction, Reduced, RowStep}
 use Rattle.linear.proofs.RowStep.{added, scaled, added-step, scaled-step}
 

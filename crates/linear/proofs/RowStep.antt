@@ -12,7 +12,7 @@ use lib.Seq.{getD-set-same, getD-set-other}
 use Rattle.linear.proofs.Combination.{Combination, SameButRow, equivalent-by-row}
 use Rattle.linear.proofs.Congruence.{sum-congruent, product-congruent}
 use Rattle.linear.proofs.Write.{Written, written-other, written-left}
-use Rattle.quotient.specs.Array.{entry}
+use Rattle.array.specs.Array.{entry}
 use Rattle.linear.specs.Elimination.{Reduced, RowStep}
 
 -- What both operations have in common: F j in row x for the columns j from c on, and the word w in row x of b.

@@ -6,7 +6,7 @@ use Prim.Native.Nat.{ℕ, zero, suc, _+_, _*_, _≤_, _<_}
 use native.Mathlib.Decide.{ℕ-discrete}
 use native.Mathlib.Omega.{arith}
 use lib.ListN.{length, getD}
-use Rattle.quotient.specs.Array.{entry, rowProduct}
+use Rattle.array.specs.Array.{entry, rowProduct}
 
 sumTo : (ℕ → ℕ) → ℕ → ℕ
 sumTo f zero = 0

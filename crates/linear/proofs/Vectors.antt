@@ -7,9 +7,9 @@ use Prim.Native.Nat.{ℕ, zero, suc, _+_, _-_, _≤_, _<_}
 use native.Mathlib.Omega.{arith}
 use lib.ListN.{length, getD, take, drop, replicate, length-replicate, length-drop, take-append-drop}
 use lib.Seq.{ext-getD, getD-drop, getD-append-add}
-use Rattle.quotient.specs.Array.{padded, Holds}
-use Rattle.quotient.specs.Residue.{Words, none, more}
-use Rattle.quotient.proofs.Words.{words-length}
+use Rattle.array.specs.Array.{padded, Holds}
+use Rattle.array.specs.Words.{Words, none, more}
+use Rattle.array.proofs.Words.{words-length}
 
 pub zero-beyond : (n j : ℕ) → _≡_ {A = ℕ} (getD (replicate n 0) j 0) 0
 zero-beyond zero j = refl

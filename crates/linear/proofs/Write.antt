@@ -7,7 +7,7 @@ use native.Mathlib.Decide.{ℕ-discrete, decLt}
 use native.Mathlib.Omega.{arith}
 use lib.ListN.{length, getD, set, length-set}
 use lib.Seq.{getD-set-same, getD-set-other}
-use Rattle.quotient.specs.Array.{entry}
+use Rattle.array.specs.Array.{entry}
 
 pub record Written (F : ℕ → ℕ) (x c k : ℕ) (m m' : List ℕ) : Type 0 where
   pub from : c ≤ k

@@ -12,7 +12,7 @@ use mathlib.Core.Path.{_≡_}
 use mathlib.Core.List.{List}
 use Prim.Native.Nat.{ℕ, _*_, _/_, _%_, _≤_, _<_}
 use lib.ListN.{length, getD}
-use Rattle.quotient.specs.Array.{entry, rowProduct, Square}
+use Rattle.array.specs.Array.{entry, rowProduct, Square}
 
 pub record Reduction (p u : ℕ) : Type 0 where
   pub positive : 0 < p

@@ -8,8 +8,8 @@ use mathlib.Core.Bool.{Bool, true, false}
 use mathlib.Core.List.{List, []}
 use Prim.Native.Nat.{ℕ, _%_, _<_}
 use lib.ListN.{getD, take, replicate}
-use Rattle.quotient.specs.Array.{Holds, rowProduct}
-use Rattle.quotient.specs.Residue.{Words}
+use Rattle.array.specs.Array.{Holds, rowProduct}
+use Rattle.array.specs.Words.{Words}
 
 abbrev pub Solves : ℕ → ℕ → List ℕ → List ℕ → List ℕ → Type 0
 Solves p n m b v = (i : ℕ) → i < n → rowProduct m i 0 v % p ≡ getD b i 0 % p

@@ -2,7 +2,7 @@
 ghost use mathlib.Core.Path.{_≡_};
 ghost use Prim.Native.Nat.{_+_, _≤_, _<_};
 ghost use Rattle.algebra.specs.Prime.{Prime};
-ghost use Rattle.quotient.specs.Array.{entry};
+ghost use Rattle.array.specs.Array.{entry};
 ghost use Rattle.linear.specs.Elimination.{Reduction, Reduced, Advanced, Prepared, Pivot};
 use crate::row::add_multiple;
 use crate::row::scale;

@@ -1,7 +1,7 @@
 // Row operations on a system whose first c columns are those of the identity. They leave those columns alone, for the row that is multiplied is 0 there.
 ghost use mathlib.Core.Path.{_≡_};
 ghost use Prim.Native.Nat.{_+_, _*_, _%_, _≤_, _<_};
-ghost use Rattle.quotient.specs.Array.{entry};
+ghost use Rattle.array.specs.Array.{entry};
 ghost use Rattle.linear.specs.Elimination.{Reduction, Reduced, RowStep};
 
 // x modulo p, by the reciprocal u of p: x·u / 2^42 is the quotient or one less.

@@ -3,7 +3,7 @@ ghost use mathlib.Core.Path.{_≡_};
 ghost use Prim.Native.Nat.{_≤_, _<_};
 ghost use lib.ListN.{length, take};
 ghost use Rattle.algebra.specs.Prime.{Prime};
-ghost use Rattle.quotient.specs.Array.{Square, Holds};
+ghost use Rattle.array.specs.Array.{Square, Holds};
 ghost use Rattle.linear.specs.System.{Singular, Outcome};
 ghost use Rattle.linear.specs.Elimination.{Identity, Pivot};
 use crate::column::eliminate;

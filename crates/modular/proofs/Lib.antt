@@ -1,9 +1,7 @@
 -- Laws of words modulo p, of the test for primes and of tests on lists.
 pub mod Remainder
-pub mod Scan
 pub mod IsPrime
 pub mod TrialDivision
 pub mod Inverse
 pub mod Bezout
 pub mod Field
-pub mod Refusal

@@ -17,7 +17,7 @@ use Rattle.algebra.specs.Prime.{Prime}
 use Rattle.algebra.proofs.Search.{member-of-all, all-of-members, range-member}
 use Rattle.modular.specs.Prime.{isPrime}
 use Rattle.modular.proofs.IsPrime.{indivisible, indivisible-of, of-indivisible, prime-of-test, test-of-prime, not-prime}
-use Rattle.modular.proofs.Scan.{getD-member, scan-next, scan-holds}
+use Rattle.algebra.proofs.Scan.{getD-member, scan-next, scan-holds}
 
 abbrev pub covered : List ℕ → ℕ → Bool
 covered primes d = not (all (indivisible d) primes)

@@ -7,8 +7,9 @@ use native.Mathlib.Omega.{arith}
 use lib.ListN.{length}
 use Rattle.algebra.specs.Lists.{equal}
 use Rattle.algebra.proofs.Equality.{equal-of, of-equal, equal-tests}
-use Rattle.quotient.specs.Residue.{Words, constant, residueOfX, substitute, modulusAt}
-use Rattle.quotient.proofs.Words.{words-length}
+use Rattle.array.specs.Words.{Words}
+use Rattle.quotient.specs.Residue.{constant, residueOfX, substitute, modulusAt}
+use Rattle.array.proofs.Words.{words-length}
 use Rattle.pair.specs.Pair.{Congruences, accepts}
 use Rattle.pair.specs.Theorem.{Isomorphisms}
 use Rattle.pair.proofs.TwoCongruences as TwoCongruences

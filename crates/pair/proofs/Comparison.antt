@@ -12,9 +12,10 @@ use lib.Seq.{drop-cons, getD-take, length-take-le}
 use borrow.Author.Tests.{eq-eqb, ne-eqb}
 use Rattle.algebra.specs.Lists.{equal}
 use Rattle.quotient.specs.Residue.{sum, constant}
-use Rattle.quotient.proofs.Words.{words-length, sum-words, constant-zero}
-use Rattle.quotient.specs.Array.{Holds}
-use Rattle.residue.proofs.PowerMatrix.{sum-word}
+use Rattle.quotient.proofs.Operations.{sum-words, constant-zero}
+use Rattle.array.proofs.Words.{words-length}
+use Rattle.array.specs.Array.{Holds}
+use Rattle.matrix.proofs.PowerMatrix.{sum-word}
 
 pub record Left (n : ℕ) (xs ys : List ℕ) (i : ℕ) : Type 0 where
   pub first-length : length xs ≡ n

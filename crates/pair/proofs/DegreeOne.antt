@@ -9,10 +9,11 @@ use native.Mathlib.Nat as Nat
 use native.Mathlib.Omega.{arith}
 use Rattle.algebra.proofs.Modulo.{add-mod-cancel}
 use Rattle.algebra.proofs.RingLaws.{mul-zero}
-use Rattle.quotient.specs.Residue.{Words, none, more, sum, scale, constant, shift, top, timesX, product, residueOfX, substitute, modulusAt}
+use Rattle.array.specs.Words.{Words, none, more}
+use Rattle.quotient.specs.Residue.{sum, scale, constant, shift, top, timesX, product, residueOfX, substitute, modulusAt}
 use Rattle.quotient.proofs.Ring.{residueRing, zeroResidue, constantResidue, mulResidue}
 use Rattle.quotient.proofs.Sums.{sum-zero}
-use Rattle.quotient.proofs.Words as Words
+use Rattle.array.proofs.Words as Words
 use Rattle.residue.proofs.Power.{power-one}
 use Rattle.pair.specs.Pair.{Congruences, accepts}
 use Rattle.pair.proofs.Accepts as Accepts

@@ -6,13 +6,13 @@ use Prim.Native.Nat.{ℕ, _^_, _≤_}
 use native.Mathlib.Omega.{arith}
 use lib.ListN.{length, take}
 use Rattle.algebra.specs.Lists.{All, all}
-use Rattle.modular.specs.Refusal.{refuse, refuseSent, badWord, allBelow}
-use Rattle.quotient.specs.Residue.{Words}
-use Rattle.modular.proofs.Refusal.{Sent, sent-given, given-sent, sent-stays}
-use Rattle.quotient.proofs.Refusal.{words-given, given-lengths, given-words}
-use Rattle.quotient.proofs.Words.{words-length}
-use Rattle.quotient.specs.Array.{padded, Holds}
-use Rattle.quotient.proofs.Padded.{holds-is, front-is}
+use Rattle.array.specs.Words.{allBelow, Words}
+use Rattle.refusal.specs.Refusal.{refuse, refuseSent, badWord}
+use Rattle.refusal.proofs.Refusal.{Sent, sent-given, given-sent, sent-stays}
+use Rattle.refusal.proofs.Lists.{words-given, given-lengths, given-words}
+use Rattle.array.proofs.Words.{words-length}
+use Rattle.array.specs.Array.{padded, Holds}
+use Rattle.array.proofs.Padded.{holds-is, front-is}
 use Rattle.pair.specs.Pair.{accepts, checkNumber}
 use Rattle.pair.specs.Theorem.{Given}
 

@@ -2,8 +2,8 @@
 use mathlib.Core.Path.{ap, _∙_}
 use mathlib.Core.Bool.{not}
 use mathlib.Core.List.{[], _∷_}
-use Rattle.modular.specs.Refusal.{refuse}
-use Rattle.modular.proofs.Refusal.{refuse-none, sent-given, given-sent}
+use Rattle.refusal.specs.Refusal.{refuse}
+use Rattle.refusal.proofs.Refusal.{refuse-none, sent-given, given-sent}
 use Rattle.pair.specs.Pair.{Congruences, accepts, checkNumber}
 use Rattle.pair.specs.Theorem.{Given, CheckerTheorem}
 use Rattle.pair.proofs.Accepts.{accepts-congruences, congruences-accepted, isomorphisms-accepted}

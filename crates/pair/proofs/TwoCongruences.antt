@@ -9,10 +9,12 @@ use native.Mathlib.Decide.{ℕ-discrete}
 use native.Mathlib.Omega.{arith}
 use Rattle.algebra.proofs.Counting.{injective-onto}
 use Rattle.quotient.specs.Map.{Preserves, Undoes}
-use Rattle.quotient.specs.Residue.{Words, residues, constant, residueOfX, substitute, modulusAt}
+use Rattle.array.specs.Words.{Words}
+use Rattle.quotient.specs.Residue.{residues, constant, residueOfX, substitute, modulusAt}
 use Rattle.quotient.proofs.Listing as Listing
 use Rattle.quotient.proofs.Substitution as Substitution
-use Rattle.quotient.proofs.Words as Words
+use Rattle.array.proofs.Words as Words
+use Rattle.quotient.proofs.Operations as Operations
 use Rattle.pair.specs.Pair.{forward, backward, Congruences}
 use Rattle.pair.specs.Theorem.{Isomorphisms}
 
@@ -20,7 +22,7 @@ module _ {p n : ℕ} {t1 t2 s r : List ℕ} (big : 2 ≤ p) (w1 : Words p (suc n
     (root : modulusAt p t2 s t1 ≡ constant (suc n) 0) (inverse : substitute p t2 s r ≡ residueOfX p t2) where
   backward-words : (u : List ℕ) → Words p (suc n) u → Words p (suc n) (backward p t1 r u)
   unfolding backward
-  backward-words u wu = Words.substitute-words big w1 wr wu
+  backward-words u wu = Operations.substitute-words big w1 wr wu
 
   forward-preserves : Preserves p t1 t2 (forward p t2 s)
   unfolding forward
@@ -49,14 +51,14 @@ module _ {p n : ℕ} {t1 t2 s r : List ℕ} (big : 2 ≤ p) (w1 : Words p (suc n
   root-of-t2 : modulusAt p t1 r t2 ≡ constant (suc n) 0
   unfolding forward
   root-of-t2 =
-      forward-injective (Words.modulusAt-words big w1 wr w2) (Words.constant-words (suc n) (omega arith))
+      forward-injective (Operations.modulusAt-words big w1 wr w2) (Operations.constant-words (suc n) (omega arith))
       (Substitution.preserves-modulusAt big w1 w2 (forward p t2 s) forward-preserves wr t2 ∙ ap (λ x. modulusAt p t2 x t2) inverse
       ∙ Substitution.modulusAt-x big w2 ∙ sym (Substitution.zero-substitute big w2 ws (suc n)))
 
   s-of-r : substitute p t1 r s ≡ residueOfX p t1
   unfolding forward
   s-of-r =
-      forward-injective (Words.substitute-words big w1 wr ws) (Words.residueOfX-words big w1)
+      forward-injective (Operations.substitute-words big w1 wr ws) (Operations.residueOfX-words big w1)
       (Substitution.substitute-substitute big w1 w2 ws root wr s ∙ ap (λ x. substitute p t2 x s) inverse ∙ Substitution.substitute-x big w2 ws
       ∙ sym (Substitution.x-substitute big w1 w2 ws root))
 

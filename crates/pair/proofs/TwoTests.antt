@@ -7,12 +7,14 @@ use native.Mathlib.Omega.{arith}
 use lib.ListN.{length, take}
 use borrow.Author.Tests.{not-true, not-false}
 use Rattle.algebra.specs.Lists.{equal}
-use Rattle.quotient.specs.Residue.{Words, sum, constant, product, power, residueOfX, substitute, modulusAt}
-use Rattle.quotient.proofs.Words.{words-length, power-words, substitute-words, residueOfX-words}
-use Rattle.quotient.specs.Array.{padded, Holds}
-use Rattle.residue.specs.Matrix.{Powers, column, matrixProduct}
-use Rattle.residue.proofs.PowerMatrix.{column-is-power, apply-is-substitute}
-use Rattle.quotient.proofs.Padded.{array-length, holds-is, front-is}
+use Rattle.array.specs.Words.{Words}
+use Rattle.quotient.specs.Residue.{sum, constant, product, power, residueOfX, substitute, modulusAt}
+use Rattle.quotient.proofs.Operations.{power-words, substitute-words, residueOfX-words}
+use Rattle.array.proofs.Words.{words-length}
+use Rattle.array.specs.Array.{padded, Holds}
+use Rattle.matrix.specs.Matrix.{Powers, column, matrixProduct}
+use Rattle.matrix.proofs.PowerMatrix.{column-is-power, apply-is-substitute}
+use Rattle.array.proofs.Padded.{array-length, holds-is, front-is}
 use Rattle.pair.specs.Pair.{accepts}
 use Rattle.pair.proofs.Accepts as Accepts
 

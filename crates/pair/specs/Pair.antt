@@ -10,7 +10,7 @@ use mathlib.Core.List.{List, [], _∷_}
 use Prim.Native.Nat.{ℕ}
 use lib.ListN.{length}
 use Rattle.algebra.specs.Lists.{equal}
-use Rattle.modular.specs.Refusal.{refuse, refuseSent}
+use Rattle.refusal.specs.Refusal.{refuse, refuseSent}
 use Rattle.quotient.specs.Residue.{constant, residueOfX, substitute, modulusAt}
 
 unfoldable pub forward : ℕ → List ℕ → List ℕ → List ℕ → List ℕ

@@ -7,18 +7,11 @@
 --   Isomorphisms p n t1 t2 s r   both maps preserve sums, products and one, and each undoes the other
 use mathlib.Core.Path.{_≡_}
 use mathlib.Core.List.{List}
-use Prim.Native.Nat.{ℕ, _≤_}
-use Rattle.algebra.specs.Prime.{Prime}
+use Prim.Native.Nat.{ℕ}
 use Rattle.quotient.specs.Map.{Preserves, Undoes}
-use Rattle.quotient.specs.Residue.{Words}
+use Rattle.array.specs.Words.{Words}
+use Rattle.refusal.specs.Models.{Models}
 use Rattle.pair.specs.Pair.{forward, backward, Congruences, checkNumber}
-
-pub record Models (p n : ℕ) (t1 t2 : List ℕ) : Type 0 where
-  pub prime : Prime p
-  pub small : p ≤ 65535
-  pub degree : (1 ≤ n) × (n ≤ 16)
-  pub modulus1 : Words p n t1
-  pub modulus2 : Words p n t2
 
 pub record Given (p n : ℕ) (t1 t2 s r : List ℕ) : Type 0 where
   pub models : Models p n t1 t2

@@ -1,20 +1,21 @@
 // The checker: the refusals of a pair, in the order of document 01, and the answer.
 use crate::congruence::accepts;
-use modular::list::below;
+use arithmetic::refusal::bad_degree;
+use arithmetic::refusal::bad_length;
+use arithmetic::refusal::bad_word;
+use arithmetic::refusal::first;
+use array::Word;
+use array::copy::load;
+use array::list::below;
 use modular::prime::is_prime;
-use residue::array::load;
-use residue::refusal::bad_degree;
-use residue::refusal::bad_length;
-use residue::refusal::bad_word;
-use residue::refusal::first;
 ghost use mathlib.Core.Path.{_≡_};
 ghost use mathlib.Core.List.{[], _∷_};
-ghost use Rattle.modular.specs.Refusal.{refuseSent, badWord};
+ghost use Rattle.refusal.specs.Refusal.{refuseSent, badWord};
 ghost use Rattle.pair.specs.Pair.{accepts as acceptsPair, checkNumber};
 ghost use Rattle.pair.specs.Theorem.{Given};
 
 // Whether a word is p or more.
-fn bad_words(p: u32, t1: &[u16], t2: &[u16], s: &[u16], r: &[u16]) -> bool
+fn bad_words(p: u32, t1: &[Word], t2: &[Word], s: &[Word], r: &[Word]) -> bool
     ensures { λ b. ⌜ b ≡ badWord p (now (t1 .entry) ∷ now (t2 .entry) ∷ now (s .entry) ∷ now (r .entry) ∷ []) ⌝ }
 {
     if bad_word(p, t1, t2, s) {
@@ -24,7 +25,7 @@ fn bad_words(p: u32, t1: &[u16], t2: &[u16], s: &[u16], r: &[u16]) -> bool
 }
 
 // The number of the first refusal but 8 that applies, 0 where none does.
-fn refusal(p: u32, n: u32, t1: &[u16], t2: &[u16], s: &[u16], r: &[u16]) -> u32
+fn refusal(p: u32, n: u32, t1: &[Word], t2: &[Word], s: &[Word], r: &[Word]) -> u32
     ensures { λ number. ⌜ number ≡ refuseSent p n (now (t1 .entry) ∷ now (t2 .entry) ∷ now (s .entry) ∷ now (r .entry) ∷ [])
         (now (t1 .entry) ∷ now (t2 .entry) ∷ now (s .entry) ∷ now (r .entry) ∷ []) 0 ⌝ }
 {
@@ -37,7 +38,7 @@ fn refusal(p: u32, n: u32, t1: &[u16], t2: &[u16], s: &[u16], r: &[u16]) -> u32
 }
 
 // Whether the four congruences hold, for lists to which no other refusal applies.
-fn accepted(p: u32, n: u32, t1: &[u16], t2: &[u16], s: &[u16], r: &[u16]) -> bool
+fn accepted(p: u32, n: u32, t1: &[Word], t2: &[Word], s: &[Word], r: &[Word]) -> bool
     requires { ⌜ Given p n (now t1) (now t2) (now s) (now r) ⌝ }
     ensures { λ b. ⌜ b ≡ acceptsPair p (now (t1 .entry)) (now (t2 .entry)) (now (s .entry)) (now (r .entry)) ⌝ }
 {
@@ -52,7 +53,7 @@ fn accepted(p: u32, n: u32, t1: &[u16], t2: &[u16], s: &[u16], r: &[u16]) -> boo
 }
 
 // 0 where the four congruences hold, and then the two maps are inverse isomorphisms; else the number of the first refusal that applies.
-pub fn check(p: u32, n: u32, t1: &[u16], t2: &[u16], s: &[u16], r: &[u16]) -> u32
+pub fn check(p: u32, n: u32, t1: &[Word], t2: &[Word], s: &[Word], r: &[Word]) -> u32
     ensures { λ number. ⌜ number ≡ checkNumber p n (now (t1 .entry)) (now (t2 .entry)) (now (s .entry)) (now (r .entry)) ⌝ }
 {
     let number = refusal(p, n, t1, t2, s, r);

@@ -1,8 +1,8 @@
 // The congruences of a pair. Two of them, T1(S) = 0 and R(S) = X modulo T2, imply the other two, and one matrix of the powers of S serves both.
+use matrix::powers::apply;
+use matrix::powers::column;
+use matrix::powers::powers;
 use modular::word::add;
-use residue::matrix::apply;
-use residue::matrix::column;
-use residue::matrix::powers;
 use residue::ring::product;
 use residue::ring::residue_of_x;
 ghost use mathlib.Core.Path.{_≡_};
@@ -10,8 +10,8 @@ ghost use Prim.Native.Nat.{_^_, _≤_};
 ghost use lib.ListN.{length, take};
 ghost use Rattle.algebra.specs.Lists.{equal};
 ghost use Rattle.quotient.specs.Residue.{constant, sum, residueOfX, modulusAt};
-ghost use Rattle.quotient.specs.Array.{Holds};
-ghost use Rattle.residue.specs.Matrix.{Powers};
+ghost use Rattle.array.specs.Array.{Holds};
+ghost use Rattle.matrix.specs.Matrix.{Powers};
 ghost use Rattle.pair.specs.Pair.{accepts as acceptsPair};
 
 // Whether u = v.

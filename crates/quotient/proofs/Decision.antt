@@ -13,10 +13,12 @@ use lib.Dec.{eqb}
 use lib.ListN.{length, replicate}
 use Rattle.algebra.specs.Lists.{Member, all, range}
 use Rattle.algebra.proofs.Search.{range-bounds, range-member, member-of-all, all-of-members}
-use Rattle.quotient.specs.Residue.{Words, residues, residueOfX, modulusAt}
+use Rattle.array.specs.Words.{Words}
+use Rattle.quotient.specs.Residue.{residues, residueOfX, modulusAt}
 use Rattle.quotient.specs.Divisor.{Divides, HasDivisor}
 use Rattle.quotient.specs.DivisorTest.{dividesTest, hasDivisor}
-use Rattle.quotient.proofs.Words.{words-length, constant-zero, modulusAt-words, residueOfX-words}
+use Rattle.quotient.proofs.Operations.{constant-zero, modulusAt-words, residueOfX-words}
+use Rattle.array.proofs.Words.{words-length}
 use Rattle.quotient.proofs.Listing.{residues-complete, residues-sound}
 use Rattle.quotient.proofs.Divisor.{divisor-root, root-divisor}
 

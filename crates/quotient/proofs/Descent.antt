@@ -5,9 +5,9 @@ use mathlib.Core.List.{List}
 use Prim.Native.Nat.{ℕ, zero, suc, _≤_}
 use native.Mathlib.Nat.{le-refl}
 use native.Mathlib.Omega.{arith}
-use Rattle.quotient.specs.Residue.{Words}
+use Rattle.array.specs.Words.{Words}
 use Rattle.quotient.specs.Divisor.{Divides, HasDivisor}
-use Rattle.quotient.proofs.Words.{words-length}
+use Rattle.array.proofs.Words.{words-length}
 use Rattle.quotient.proofs.Divisor.{divides-itself, divides-transitive}
 use Rattle.quotient.proofs.Decision.{has-divisor?}
 

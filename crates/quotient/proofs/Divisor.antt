@@ -8,9 +8,10 @@ use native.Mathlib.Nat.{add-zero, mod-mod}
 use lib.ListN.{getD, replicate}
 use Rattle.algebra.specs.Ring.{CommutativeRing}
 use Rattle.algebra.proofs.RingLaws.{zero-mul}
-use Rattle.quotient.specs.Residue.{Words, Residue, sum, constant, residueOfX, modulusAt}
+use Rattle.array.specs.Words.{Words}
+use Rattle.quotient.specs.Residue.{Residue, sum, constant, residueOfX, modulusAt}
 use Rattle.quotient.specs.Divisor.{Same, Divides, Remainder, polynomialProduct, monic}
-use Rattle.quotient.proofs.Words.{residue-path, constant-zero}
+use Rattle.quotient.proofs.Operations.{residue-path, constant-zero}
 use Rattle.quotient.proofs.Ring.{residueRing, xResidue}
 use Rattle.quotient.proofs.Substitution.{Homomorphism, evaluate-x, evaluate-homomorphism}
 use Rattle.quotient.proofs.Reduction.{zero-is, characteristic, reduce, reduce-product, reduce-same, reduce-monic, reduce-modulus}

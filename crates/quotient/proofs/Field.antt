@@ -14,9 +14,10 @@ use Rattle.algebra.specs.Ring.{CommutativeRing, Field, power}
 use Rattle.algebra.proofs.Counting.{without, without-length, without-keeps, without-lacks, without-distinct}
 use Rattle.algebra.proofs.Lists.{member-equal}
 use Rattle.algebra.proofs.Units.{Units, power-units}
-use Rattle.quotient.specs.Residue.{Words, Residue, constant}
+use Rattle.array.specs.Words.{Words}
+use Rattle.quotient.specs.Residue.{Residue, constant}
 use Rattle.quotient.specs.Divisor.{HasDivisor}
-use Rattle.quotient.proofs.Words.{residue-discrete}
+use Rattle.quotient.proofs.Operations.{residue-discrete}
 use Rattle.quotient.proofs.Ring.{residueRing}
 use Rattle.quotient.proofs.Reduction.{zero-is, one-is}
 use Rattle.quotient.proofs.Listing.{allResidues, allResidues-complete, allResidues-distinct, allResidues-length}

@@ -8,7 +8,8 @@ use Rattle.algebra.specs.Prime.{Prime}
 use Rattle.algebra.specs.Ring.{CommutativeRing, numeral, power as ring-power}
 use Rattle.algebra.proofs.Frobenius.{frobenius-add, frobenius-numeral, frobenius-value}
 use Rattle.algebra.proofs.RingLaws.{power-product}
-use Rattle.quotient.specs.Residue.{Words, Residue, sum, scale, power, residueOfX, substitute}
+use Rattle.array.specs.Words.{Words}
+use Rattle.quotient.specs.Residue.{Residue, sum, scale, power, residueOfX, substitute}
 use Rattle.quotient.proofs.Evaluation.{evaluate}
 use Rattle.quotient.proofs.Ring.{residueRing, xResidue, power-is}
 use Rattle.quotient.proofs.Reduction.{add-is, scale-is, characteristic, reduce, reduce-residue}

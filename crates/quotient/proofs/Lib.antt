@@ -1,8 +1,6 @@
 -- The theory of residues modulo a monic polynomial.
 pub mod Action
-pub mod Words
-pub mod Painted
-pub mod Padded
+pub mod Operations
 pub mod Sums
 pub mod TimesX
 pub mod Ring
@@ -18,4 +16,3 @@ pub mod Units
 pub mod Field
 pub mod Frobenius
 pub mod Theorem
-pub mod Refusal

@@ -10,8 +10,9 @@ use lib.ListN.{length, length-append, length-map}
 use Rattle.algebra.specs.Lists.{Member, Distinct, range}
 use Rattle.algebra.proofs.Lists.{member-equal, member-append-left, member-append-right, member-append, member-map, map-member, distinct-map, distinct-append}
 use Rattle.algebra.proofs.Search.{range-length, range-bounds, range-member, range-distinct}
-use Rattle.quotient.specs.Residue.{Words, none, more, Residue, residues, prefixed}
-use Rattle.quotient.proofs.Words.{residue-path}
+use Rattle.array.specs.Words.{Words, none, more}
+use Rattle.quotient.specs.Residue.{Residue, residues, prefixed}
+use Rattle.quotient.proofs.Operations.{residue-path}
 
 prefixed-complete : (words : List ℕ) (us : List (List ℕ)) (a : ℕ) (u : List ℕ) → Member a words → Member u us → Member (a ∷ u) (prefixed words us)
 unfolding prefixed

@@ -7,11 +7,12 @@ use Prim.Native.Nat.{ℕ, suc, _≤_}
 use lib.ListN.{replicate}
 use Rattle.algebra.specs.Ring.{CommutativeRing, numeral}
 use Rattle.algebra.proofs.RingLaws.{numeral-one, mul-zero}
-use Rattle.quotient.specs.Residue.{Words, Residue, sum, scale, constant, product, residueOfX, modulusAt}
+use Rattle.array.specs.Words.{Words}
+use Rattle.quotient.specs.Residue.{Residue, sum, scale, constant, product, residueOfX, modulusAt}
 use Rattle.quotient.specs.Divisor.{Same, polynomialProduct, monic}
 use Rattle.quotient.proofs.Evaluation.{evaluate, evaluate-nil, evaluate-cons, evaluate-sum, evaluate-scale, evaluate-product, evaluate-same, repeated-is}
 use Rattle.quotient.proofs.Ring.{residueRing, oneResidue, zeroResidue, constantResidue, addResidue, mulResidue, act-one, repeated-scale, xResidue, numeral-vanishes, modulus-vanishes}
-use Rattle.quotient.proofs.Words.{residue-path, constant-zero}
+use Rattle.quotient.proofs.Operations.{residue-path, constant-zero}
 use Rattle.quotient.proofs.Substitution.{modulusAt-is, evaluate-x}
 
 module _ {p n : ℕ} {t : List ℕ} (big : 2 ≤ p) (wt : Words p n t) where

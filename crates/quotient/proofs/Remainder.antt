@@ -9,14 +9,15 @@ use mathlib.Core.List.{List, [], _∷_}
 use Prim.Native.Nat.{ℕ, zero, suc, _%_, _≤_}
 use native.Mathlib.Nat as Nat
 use lib.ListN.{getD}
-use Rattle.quotient.specs.Residue.{Words, none, more, Residue, sum, constant, top, timesX}
+use Rattle.array.specs.Words.{Words, none, more}
+use Rattle.quotient.specs.Residue.{Residue, sum, constant, top, timesX}
 use Rattle.quotient.specs.Divisor.{Same, Remainder, polynomialProduct, monic}
 use Rattle.quotient.proofs.Action
 use Rattle.quotient.proofs.Action.{PolynomialModule, repeated, multiple, act}
 use Rattle.quotient.proofs.Ring as Residues
 use Rattle.quotient.proofs.Ring.{residueModule, oneResidue, zeroResidue, addResidue, constantResidue}
 use Rattle.quotient.proofs.TimesX
-use Rattle.quotient.proofs.Words
+use Rattle.array.proofs.Words
 
 abbrev Series : ℕ → Type 0
 Series p = ℕ → Residue p 1

@@ -14,21 +14,22 @@ use native.Mathlib.Omega.{arith}
 use lib.ListN.{replicate}
 use Rattle.algebra.specs.Ring.{CommutativeRing, numeral}
 use Rattle.algebra.specs.Ring as Ring
-use Rattle.quotient.specs.Residue.{Words, none, more, Residue, sum, scale, constant, top, timesX, product, power, residueOfX}
+use Rattle.array.specs.Words.{Words, none, more}
+use Rattle.quotient.specs.Residue.{Residue, sum, scale, constant, top, timesX, product, power, residueOfX}
 use Rattle.quotient.specs.Divisor.{monic, polynomialProduct}
 use Rattle.quotient.specs.Theorem.{RingOfResidues}
-use Rattle.quotient.proofs.Action.{PolynomialModule, repeated, multiple, multiple-one, add-cancel, Linear, linear-act, linear-zero}
-use Rattle.quotient.proofs.Action.{act, act-add, act-comm, act-linear, act-product}
+use Rattle.quotient.proofs.Action.{PolynomialModule, repeated, multiple, multiple-one, add-cancel, Linear, linear-act, linear-zero, act, act-add, act-comm, act-linear, act-product}
 use Rattle.quotient.proofs.Sums
 use Rattle.quotient.proofs.TimesX
-use Rattle.quotient.proofs.Words
+use Rattle.array.proofs.Words
+use Rattle.quotient.proofs.Operations
 
 module _ {p n : ℕ} where
   unfoldable pub addResidue : Residue p n → Residue p n → Residue p n
-  addResidue u v = (sum p (u .0) (v .0), Words.sum-words (u .1) (v .1))
+  addResidue u v = (sum p (u .0) (v .0), Operations.sum-words (u .1) (v .1))
 
   unfoldable pub constantResidue : (c : ℕ) → c < p → Residue p n
-  constantResidue c h = (constant n c, Words.constant-words n h)
+  constantResidue c h = (constant n c, Operations.constant-words n h)
 
   module _ (big : 2 ≤ p) where
     unfoldable pub zeroResidue : Residue p n
@@ -49,14 +50,14 @@ module _ {p n : ℕ} {t : List ℕ} (big : 2 ≤ p) (wt : Words p n t) where
   residueModule = record {
     zero = zeroResidue big;
     add = addResidue;
-    neg = λ u. (scale p (p - 1) (u .0), Words.scale-words (p - 1) (u .1));
-    timesX = λ u. (timesX p t (u .0), Words.timesX-words big wt (u .1));
-    add-assoc = λ u v w. Words.residue-path (Sums.sum-assoc (u .1) (v .1) (w .1));
-    add-comm = λ u v. Words.residue-path (Sums.sum-comm (u .1) (v .1));
-    add-zero = λ u. Words.residue-path (Sums.sum-zero (u .1));
-    add-neg = λ u. Words.residue-path (Sums.sum-negation big (u .1));
-    vanishes = λ u. Words.residue-path (repeated-scale big p u ∙ Sums.scale-modulus (u .1));
-    timesX-add = λ u v. Words.residue-path (TimesX.timesX-sum big wt (u .1) (v .1));
+    neg = λ u. (scale p (p - 1) (u .0), Operations.scale-words (p - 1) (u .1));
+    timesX = λ u. (timesX p t (u .0), Operations.timesX-words big wt (u .1));
+    add-assoc = λ u v w. Operations.residue-path (Sums.sum-assoc (u .1) (v .1) (w .1));
+    add-comm = λ u v. Operations.residue-path (Sums.sum-comm (u .1) (v .1));
+    add-zero = λ u. Operations.residue-path (Sums.sum-zero (u .1));
+    add-neg = λ u. Operations.residue-path (Sums.sum-negation big (u .1));
+    vanishes = λ u. Operations.residue-path (repeated-scale big p u ∙ Sums.scale-modulus (u .1));
+    timesX-add = λ u v. Operations.residue-path (TimesX.timesX-sum big wt (u .1) (v .1));
   }
 
   pub multiple-is : (c : ℕ) (u : Residue p n) → multiple residueModule c u .0 ≡ scale p c (u .0)
@@ -70,7 +71,7 @@ module _ {p n : ℕ} {t : List ℕ} (big : 2 ≤ p) (wt : Words p n t) where
   -- u·1 = u, also where u is a shorter list
   act-one-padded : {k : ℕ} {u : List ℕ} → Words p k u → (j : ℕ) → k + j ≡ n → act residueModule u (oneResidue big) .0 ≡ u ++ replicate j 0
   unfolding act residueModule zeroResidue oneResidue constantResidue addResidue multiple
-  act-one-padded none j h = Words.constant-zero n ∙ ap (λ i. replicate i 0) (sym h ∙ Nat.zero-add j)
+  act-one-padded none j h = Operations.constant-zero n ∙ ap (λ i. replicate i 0) (sym h ∙ Nat.zero-add j)
   act-one-padded (more {a = a} {n = k} {u = u} l w) j h =
       let e : k + suc j ≡ n = omega arith in
       let pos : 0 < p = omega arith in
@@ -86,14 +87,14 @@ module _ {p n : ℕ} {t : List ℕ} (big : 2 ≤ p) (wt : Words p n t) where
   product-act (c ∷ u) v = ap₂ (λ x y. sum p x (timesX p t y)) (sym (multiple-is c v)) (product-act u v)
 
   unfoldable pub mulResidue : Residue p n → Residue p n → Residue p n
-  mulResidue u v = (product p t (u .0) (v .0), Words.product-words big wt (u .0) (v .1))
+  mulResidue u v = (product p t (u .0) (v .0), Operations.product-words big wt (u .0) (v .1))
 
   pub mul-act : (u v : Residue p n) → mulResidue u v ≡ act residueModule (u .0) v
   unfolding mulResidue
-  mul-act u v = Words.residue-path (product-act (u .0) v)
+  mul-act u v = Operations.residue-path (product-act (u .0) v)
 
   pub act-one : (u : Residue p n) → act residueModule (u .0) (oneResidue big) ≡ u
-  act-one u = Words.residue-path (act-one-padded (u .1) 0 (Nat.add-zero n) ∙ append-nil (u .0))
+  act-one u = Operations.residue-path (act-one-padded (u .1) 0 (Nat.add-zero n) ∙ append-nil (u .0))
 
   pub mul-one : (u : Residue p n) → mulResidue u (oneResidue big) ≡ u
   mul-one u = mul-act u (oneResidue big) ∙ act-one u
@@ -126,7 +127,7 @@ module _ {p n : ℕ} {t : List ℕ} (big : 2 ≤ p) (wt : Words p n t) where
     add = addResidue;
     neg = residueModule .neg;
     mul = mulResidue;
-    isSet = hedberg (Words.residue-discrete p n);
+    isSet = hedberg (Operations.residue-discrete p n);
     add-assoc = residueModule .add-assoc;
     add-comm = residueModule .add-comm;
     add-zero = residueModule .add-zero;
@@ -142,11 +143,11 @@ module _ {p n : ℕ} {t : List ℕ} (big : 2 ≤ p) (wt : Words p n t) where
   residues-are-a-ring = record { ring = residueRing; zero-is = refl; one-is = refl; add-is = λ u v. refl; mul-is = λ u v. refl }
 
   unfoldable pub xResidue : Residue p n
-  xResidue = (residueOfX p t, Words.residueOfX-words big wt)
+  xResidue = (residueOfX p t, Operations.residueOfX-words big wt)
 
   pub x-is : xResidue ≡ residueModule .timesX (oneResidue big)
   unfolding xResidue residueOfX residueModule oneResidue constantResidue
-  x-is = Words.residue-path (ap (λ k. timesX p t (constant k 1)) (Words.words-length wt))
+  x-is = Operations.residue-path (ap (λ k. timesX p t (constant k 1)) (Words.words-length wt))
 
   -- multiplication by X is timesX
   pub mul-x : (u : Residue p n) → mulResidue xResidue u ≡ residueModule .timesX u
@@ -168,7 +169,7 @@ module _ {p n : ℕ} {t : List ℕ} (big : 2 ≤ p) (wt : Words p n t) where
 
   pub numeral-vanishes : numeral residueRing p ≡ residueRing .zero
   unfolding residueRing zeroResidue constantResidue
-  numeral-vanishes = Words.residue-path (numeral-is p ∙ ap (constant n) (Nat.mod-self p))
+  numeral-vanishes = Operations.residue-path (numeral-is p ∙ ap (constant n) (Nat.mod-self p))
 
 -- T(X) = 0
 

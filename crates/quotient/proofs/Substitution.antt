@@ -8,7 +8,8 @@ use lib.ListN.{length, replicate}
 use Rattle.algebra.specs.Ring.{CommutativeRing, numeral}
 use Rattle.algebra.specs.Ring as Ring
 use Rattle.algebra.proofs.RingLaws as Laws
-use Rattle.quotient.specs.Residue.{Words, Residue, sum, constant, top, timesX, product, residueOfX, substitute, modulusAt}
+use Rattle.array.specs.Words.{Words}
+use Rattle.quotient.specs.Residue.{Residue, sum, constant, top, timesX, product, residueOfX, substitute, modulusAt}
 use Rattle.quotient.specs.Divisor.{monic}
 use Rattle.quotient.specs.Map.{Preserves, Undoes}
 use Rattle.quotient.proofs.Action
@@ -19,7 +20,8 @@ use Rattle.quotient.proofs.Ring as Residues
 use Rattle.quotient.proofs.Ring.{residueModule, residueRing, xResidue, mulResidue, oneResidue, zeroResidue, addResidue, constantResidue}
 use Rattle.quotient.proofs.Sums
 use Rattle.quotient.proofs.TimesX
-use Rattle.quotient.proofs.Words
+use Rattle.array.proofs.Words
+use Rattle.quotient.proofs.Operations
 
 pub record Homomorphism {A B : Type 0} (R : CommutativeRing A) (S : CommutativeRing B) (f : A → B) : Type 0 where
   pub add : (a b : A) → f (R .add a b) ≡ S .add (f a) (f b)
@@ -47,7 +49,7 @@ module _ {p n : ℕ} {t : List ℕ} (big : 2 ≤ p) (wt : Words p n t) where
   substitute-is s [] = rw (Words.words-length wt)
   substitute-is s (c ∷ u) =
       rw (Words.words-length wt) (ap (λ x. sum p (constant n c) (product p t (s .0) x)) (substitute-is s u)
-      ∙ Sums.sum-constant-mod c (Words.product-words big wt (s .0) (evaluate (residueRing big wt) u s .1))
+      ∙ Sums.sum-constant-mod c (Operations.product-words big wt (s .0) (evaluate (residueRing big wt) u s .1))
       ∙ ap (λ x. sum p x (product p t (s .0) (evaluate (residueRing big wt) u s .0))) (sym (Residues.numeral-is big wt c)))
 
   pub modulusAt-is : (s : Residue p n) (m : List ℕ) → modulusAt p t (s .0) m ≡ evaluate (residueRing big wt) (monic m) s .0
@@ -114,7 +116,7 @@ pub zero-substitute : {p n : ℕ} {t s : List ℕ} → 2 ≤ p → Words p n t �
 unfolding residueRing zeroResidue constantResidue
 zero-substitute {s = s} big wt ws k =
     substitute-is big wt (s, ws) (constant k 0)
-    ∙ ap (λ x. x .0) (ap (λ u. evaluate (residueRing big wt) u (s, ws)) (Words.constant-zero k) ∙ evaluate-zeros (residueRing big wt) k (s, ws))
+    ∙ ap (λ x. x .0) (ap (λ u. evaluate (residueRing big wt) u (s, ws)) (Operations.constant-zero k) ∙ evaluate-zeros (residueRing big wt) k (s, ws))
 
 -- u(X) = u and T(X) = 0
 
@@ -155,9 +157,9 @@ module _ {p m n : ℕ} {t1 t2 : List ℕ} (big : 2 ≤ p) (w1 : Words p m t1) (w
     preserves-homomorphism : Homomorphism (residueRing big w1) (residueRing big w2) (λ u. (f (u .0), closed (u .0) (u .1)))
     unfolding residueRing addResidue mulResidue oneResidue constantResidue
     preserves-homomorphism = record {
-      add = λ u v. Words.residue-path (h .sums (u .0) (v .0) (Words.to-length w1 (u .1)) (Words.to-length w1 (v .1)));
-      mul = λ u v. Words.residue-path (h .products (u .0) (v .0) (Words.to-length w1 (u .1)) (Words.to-length w1 (v .1)));
-      one = Words.residue-path (rw (Words.words-length w1, Words.words-length w2) at (h .one));
+      add = λ u v. Operations.residue-path (h .sums (u .0) (v .0) (Words.to-length w1 (u .1)) (Words.to-length w1 (v .1)));
+      mul = λ u v. Operations.residue-path (h .products (u .0) (v .0) (Words.to-length w1 (u .1)) (Words.to-length w1 (v .1)));
+      one = Operations.residue-path (rw (Words.words-length w1, Words.words-length w2) at (h .one));
     }
 
     -- f(u(R)) = u(f(R))
@@ -179,7 +181,7 @@ module _ {p m n : ℕ} {t1 t2 s : List ℕ} (big : 2 ≤ p) (w1 : Words p (suc m
   substitution-preserves =
       homomorphism-preserves big w1 w2 (substitute p t2 s) (λ u. evaluate (residueRing big w2) (u .0) (s, ws))
       (evaluate-homomorphism big w1 (residueRing big w2) (Residues.numeral-vanishes big w2) (s, ws)
-      (Words.residue-path (sym (modulusAt-is big w2 (s, ws) t1) ∙ root)))
+      (Operations.residue-path (sym (modulusAt-is big w2 (s, ws) t1) ∙ root)))
       (λ u. substitute-is big w2 (s, ws) (u .0))
 
   -- (u(R))(S) = u(R(S))
@@ -200,4 +202,4 @@ module _ {p m n : ℕ} {t1 t2 s : List ℕ} (big : 2 ≤ p) (w1 : Words p (suc m
   x-substitute =
       substitute-is big w2 (s, ws) (residueOfX p t1)
       ∙ ap (λ x. x .0) (evaluate-of-x big w1 (residueRing big w2) (Residues.numeral-vanishes big w2) (s, ws)
-      (Words.residue-path (sym (modulusAt-is big w2 (s, ws) t1) ∙ root)))
+      (Operations.residue-path (sym (modulusAt-is big w2 (s, ws) t1) ∙ root)))

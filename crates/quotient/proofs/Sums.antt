@@ -5,8 +5,9 @@ use Prim.Native.Nat.{ℕ, zero, suc, _+_, _-_, _*_, _%_, _<_, _≤_}
 use native.Mathlib.Nat as Nat
 use native.Mathlib.Omega.{arith}
 use lib.ListN.{replicate}
-use Rattle.quotient.specs.Residue.{Words, none, more, sum, scale, constant}
-use Rattle.quotient.proofs.Words.{constant-zero, constant-words}
+use Rattle.array.specs.Words.{Words, none, more}
+use Rattle.quotient.specs.Residue.{sum, scale, constant}
+use Rattle.quotient.proofs.Operations.{constant-zero, constant-words}
 
 pub sum-comm : {p n : ℕ} {u v : List ℕ} → Words p n u → Words p n v → sum p u v ≡ sum p v u
 unfolding sum

@@ -7,12 +7,13 @@ use native.Mathlib.Nat as Nat
 use native.Mathlib.Decide.{decLt}
 use native.Mathlib.Omega.{arith}
 use lib.ListN.{length, replicate}
-use Rattle.quotient.specs.Residue.{Words, none, more, sum, scale, shift, top, timesX}
+use Rattle.array.specs.Words.{Words, none, more}
+use Rattle.quotient.specs.Residue.{sum, scale, shift, top, timesX}
 use Rattle.quotient.specs.Divisor.{monic}
-use Rattle.quotient.proofs.Action.{PolynomialModule, multiple, multiple-zero, multiple-add, multiple-sum, zero-add, linear-zero, linear-multiple, timesX-linear}
-use Rattle.quotient.proofs.Action.{act, act-nil, act-cons, act-sum, act-scale, act-monic, iterate}
+use Rattle.quotient.proofs.Action.{PolynomialModule, multiple, multiple-zero, multiple-add, multiple-sum, zero-add, linear-zero, linear-multiple, timesX-linear, act, act-nil, act-cons, act-sum, act-scale, act-monic, iterate}
 use Rattle.quotient.proofs.Sums.{sum-cross, sum-zero, scale-sum, scale-more, scale-modulus}
-use Rattle.quotient.proofs.Words.{words-length, shift-words, scale-words, top-below}
+use Rattle.quotient.proofs.Operations.{shift-words, scale-words, top-below}
+use Rattle.array.proofs.Words.{words-length}
 
 -- X·(u + v) = X·u + X·v
 

@@ -14,9 +14,11 @@ use Rattle.algebra.specs.Prime.{Prime}
 use Rattle.algebra.specs.Ring.{CommutativeRing, numeral}
 use Rattle.algebra.proofs.Euclid.{inverse-exists}
 use Rattle.algebra.proofs.RingLaws.{mul-comm, mul-neg, neg-unique}
-use Rattle.quotient.specs.Residue.{Words, none, more, Residue, sum, scale}
+use Rattle.array.specs.Words.{Words, none, more}
+use Rattle.quotient.specs.Residue.{Residue, sum, scale}
 use Rattle.quotient.specs.Divisor.{Same, HasDivisor, Remainder, polynomialProduct, monic}
-use Rattle.quotient.proofs.Words.{words-length, scale-words}
+use Rattle.quotient.proofs.Operations.{scale-words}
+use Rattle.array.proofs.Words.{words-length}
 use Rattle.quotient.proofs.Ring.{residueRing}
 use Rattle.quotient.proofs.Reduction.{zero-of-zeros, reduce, reduce-sum, reduce-scale, reduce-product, reduce-same, reduce-one, reduce-residue, reduce-modulus}
 use Rattle.quotient.proofs.Divisor.{remainder-reduces, zero-divides}

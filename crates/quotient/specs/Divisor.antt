@@ -10,7 +10,8 @@ use mathlib.Core.Path.{_≡_}
 use mathlib.Core.List.{List, [], _∷_, _++_}
 use Prim.Native.Nat.{ℕ, _%_, _<_}
 use lib.ListN.{length, getD}
-use Rattle.quotient.specs.Residue.{Words, sum, scale}
+use Rattle.array.specs.Words.{Words}
+use Rattle.quotient.specs.Residue.{sum, scale}
 
 abbrev pub Same : ℕ → List ℕ → List ℕ → Type 0
 Same p f g = (i : ℕ) → getD f i 0 % p ≡ getD g i 0 % p

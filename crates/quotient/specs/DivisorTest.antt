@@ -10,7 +10,8 @@ use Prim.Native.Nat.{ℕ, _-_, _≤_}
 use lib.Dec.{eqb}
 use lib.ListN.{length}
 use Rattle.algebra.specs.Lists.{all, range}
-use Rattle.quotient.specs.Residue.{Words, residues, residueOfX, modulusAt}
+use Rattle.array.specs.Words.{Words}
+use Rattle.quotient.specs.Residue.{residues, residueOfX, modulusAt}
 use Rattle.quotient.specs.Divisor.{HasDivisor}
 
 unfoldable pub dividesTest : ℕ → List ℕ → List ℕ → Bool

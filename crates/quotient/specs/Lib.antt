@@ -1,6 +1,5 @@
 -- Residues modulo a monic polynomial, divisors, and what is proved of them.
 pub mod Residue
-pub mod Array
 pub mod Map
 pub mod Divisor
 pub mod DivisorTest

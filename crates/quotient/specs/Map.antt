@@ -6,7 +6,8 @@ use mathlib.Core.Path.{_≡_}
 use mathlib.Core.List.{List}
 use Prim.Native.Nat.{ℕ}
 use lib.ListN.{length}
-use Rattle.quotient.specs.Residue.{Words, sum, constant, product}
+use Rattle.array.specs.Words.{Words}
+use Rattle.quotient.specs.Residue.{sum, constant, product}
 
 pub record Preserves (p : ℕ) (t1 t2 : List ℕ) (f : List ℕ → List ℕ) : Type 0 where
   pub residues : (u : List ℕ) → Words p (length t1) u → Words p (length t2) (f u)

@@ -1,9 +1,9 @@
 -- Residues modulo a monic polynomial (document 01, "Models and residues").
 -- A modulus T = X^n + t(n−1)X^(n−1) + … + t0 is given by the list t of its n lower words, constant first. A residue is n words,
 -- each below p, in the same order: a polynomial of degree below n, taken modulo p and T.
---   Words p n u          u is n words, each below p
 --   Residue p n          the residues
 --   residues p n         the list of all of them
+--   firstResidue p t b   the first residue modulo T that passes the test b; 0 where none does
 --   sum p u v            u + v, coefficient by coefficient; also of polynomials of different degrees
 --   scale p c u          c·u
 --   constant n c         the constant c
@@ -13,14 +13,12 @@
 --   residueOfX p t       X modulo T; for n = 1 the constant −t0
 --   substitute p t s u   u(S) modulo T, by Horner's rule
 --   modulusAt p t s m    M(S) modulo T, where M is the monic polynomial with the lower words m
+use mathlib.Core.Bool.{Bool}
 use mathlib.Core.List.{List, [], _∷_, _++_, map}
-use Prim.Native.Nat.{ℕ, zero, suc, _+_, _-_, _*_, _%_, _<_}
+use Prim.Native.Nat.{ℕ, zero, suc, _+_, _-_, _*_, _%_}
 use lib.ListN.{length, replicate}
-use Rattle.algebra.specs.Lists.{range}
-
-pub data Words (p : ℕ) : ℕ → List ℕ → Type 0 where
-  none : Words p 0 []
-  more : {a n : ℕ} {u : List ℕ} → a < p → Words p n u → Words p (suc n) (a ∷ u)
+use Rattle.algebra.specs.Lists.{range, first}
+use Rattle.array.specs.Words.{Words}
 
 abbrev pub Residue : ℕ → ℕ → Type 0
 Residue p n = (u : List ℕ) × Words p n u
@@ -46,6 +44,9 @@ scale p c (a ∷ u) = (c * a) % p ∷ scale p c u
 unfoldable pub constant : ℕ → ℕ → List ℕ
 constant zero c = []
 constant (suc n) c = c ∷ replicate n 0
+
+unfoldable pub firstResidue : ℕ → List ℕ → (List ℕ → Bool) → List ℕ
+firstResidue p t test = first test (constant (length t) 0) (residues p (length t))
 
 -- the words of u one place higher, behind c; the top word falls out
 unfoldable pub shift : ℕ → List ℕ → List ℕ

@@ -18,7 +18,8 @@ use Rattle.algebra.specs.Prime.{Prime}
 use Rattle.algebra.specs.Ring.{CommutativeRing}
 use Rattle.quotient.specs.Divisor.{Divides, HasDivisor, Remainder, polynomialProduct}
 use Rattle.quotient.specs.Map.{Preserves}
-use Rattle.quotient.specs.Residue.{Words, Residue, residues, sum, scale, constant, product, power, residueOfX, substitute, modulusAt}
+use Rattle.array.specs.Words.{Words}
+use Rattle.quotient.specs.Residue.{Residue, residues, sum, scale, constant, product, power, residueOfX, substitute, modulusAt}
 
 pub record RingOfResidues (p n : ℕ) (t : List ℕ) : Type 0 where
   pub ring : CommutativeRing (Residue p n)

@@ -12,7 +12,7 @@ use lib.Seq.{drop-cons, getD-take, length-take-le}
 use Rattle.algebra.proofs.Modulo.{mod-mul-mod, add-mod-cancel}
 use Rattle.quotient.specs.Residue.{sum, scale, shift, top, timesX, product}
 use Rattle.residue.specs.Delayed.{reduced}
-use Rattle.quotient.proofs.Painted.{table}
+use Rattle.array.proofs.Painted.{table}
 
 unfoldable pub term : ℕ → ℕ → ℕ → List ℕ → List ℕ → List ℕ → ℕ → ℕ
 term q c a t v w k = getD (a ∷ w) k 0 + q * getD t k 0 + c * getD v k 0

@@ -9,12 +9,14 @@ use lib.Seq.{getD-take}
 use mir.Syntax.{w64}
 use mir.Val.{Fits}
 use Rattle.algebra.proofs.RingLaws as RingLaws
-use Rattle.quotient.specs.Residue.{Words, none, more, sum, scale, shift, top, timesX, constant, product, power, residueOfX}
+use Rattle.array.specs.Words.{Words, none, more}
+use Rattle.quotient.specs.Residue.{sum, scale, shift, top, timesX, constant, product, power, residueOfX}
 use Rattle.quotient.proofs.Sums.{sum-zero, scale-modulus}
-use Rattle.quotient.proofs.Words.{words-length, zeros-words, product-words, power-words}
+use Rattle.quotient.proofs.Operations.{product-words, power-words}
+use Rattle.array.proofs.Words.{words-length, zeros-words}
 use Rattle.quotient.proofs.Ring.{residueRing, mulResidue, power-is}
-use Rattle.quotient.specs.Array.{padded, Holds}
-use Rattle.quotient.proofs.Padded.{padded-zeros, holds-word, holds-is, front-is}
+use Rattle.array.specs.Array.{padded, Holds}
+use Rattle.array.proofs.Padded.{padded-zeros, holds-word, holds-is, front-is}
 
 pub constant-array : (n c : ℕ) → 1 ≤ n → n ≤ 16 → set (replicate 16 0) 0 c ≡ padded (constant n c)
 unfolding constant padded

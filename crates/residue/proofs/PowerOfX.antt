@@ -6,13 +6,15 @@ use Prim.Native.Nat.{ℕ, zero, suc, _+_, _-_, _/_, _%_, _≤_, _<_}
 use native.Mathlib.Omega.{arith}
 use lib.ListN.{length, take, set, replicate, length-set, length-replicate}
 use lib.Seq.{set-append-left}
-use Rattle.quotient.specs.Residue.{Words, more, sum, constant, timesX, product, power, residueOfX}
+use Rattle.array.specs.Words.{Words, more}
+use Rattle.quotient.specs.Residue.{sum, constant, timesX, product, power, residueOfX}
 use Rattle.quotient.proofs.Sums.{sum-comm, sum-zero, scale-zero}
 use Rattle.quotient.proofs.TimesX.{timesX-zeros}
-use Rattle.quotient.proofs.Words.{words-length, zeros-words, padded-words, snoc-words, constant-words, timesX-words, product-words, residueOfX-words, power-words}
+use Rattle.quotient.proofs.Operations.{constant-words, timesX-words, product-words, residueOfX-words, power-words}
+use Rattle.array.proofs.Words.{words-length, zeros-words, padded-words, snoc-words}
 use Rattle.quotient.proofs.Ring.{residueModule, mulResidue, xResidue, mul-x}
-use Rattle.quotient.specs.Array.{padded, Holds}
-use Rattle.quotient.proofs.Padded.{padded-zeros, front-is}
+use Rattle.array.specs.Array.{padded, Holds}
+use Rattle.array.proofs.Padded.{padded-zeros, front-is}
 use Rattle.residue.specs.Delayed.{Delayed, Stepped}
 use Rattle.residue.proofs.Power.{power-holds, power-even, power-odd}
 use Rattle.residue.proofs.Product.{delayed-more}

@@ -7,10 +7,11 @@ use native.Mathlib.Omega.{arith}
 use lib.ListN.{getD, take, drop, replicate, drop-of-length-le}
 use Rattle.algebra.specs.Lists.{All}
 use Rattle.quotient.specs.Residue.{sum, scale, constant, timesX, product}
-use Rattle.quotient.proofs.Words.{words-length, constant-zero}
-use Rattle.quotient.specs.Array.{padded, Holds}
+use Rattle.quotient.proofs.Operations.{constant-zero}
+use Rattle.array.proofs.Words.{words-length}
+use Rattle.array.specs.Array.{padded, Holds}
 use Rattle.residue.specs.Delayed.{reduced, Delayed, Stepped}
-use Rattle.quotient.proofs.Padded.{array-fits, padded-zeros, take-zeros, holds-word}
+use Rattle.array.proofs.Padded.{array-fits, padded-zeros, take-zeros, holds-word}
 use Rattle.residue.proofs.Horner.{product-at}
 use Rattle.residue.proofs.Step.{delayed-word}
 

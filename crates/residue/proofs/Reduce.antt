@@ -5,10 +5,10 @@ use mathlib.Core.List.{List, [], _∷_}
 use Prim.Native.Nat.{ℕ, zero, suc, _+_, _%_, _^_, _≤_, _<_}
 use native.Mathlib.Omega.{arith}
 use lib.ListN.{length, getD, take, set}
-use Rattle.quotient.specs.Array.{padded}
+use Rattle.array.specs.Array.{padded}
 use Rattle.residue.specs.Delayed.{reduced, Delayed}
-use Rattle.quotient.proofs.Painted.{painted, table, painted-next, painted-above}
-use Rattle.quotient.proofs.Padded.{array-fits, painted-array}
+use Rattle.array.proofs.Painted.{painted, table, painted-next, painted-above}
+use Rattle.array.proofs.Padded.{array-fits, painted-array}
 use Rattle.residue.proofs.Step.{delayed-word}
 
 unfoldable pub remainder : ℕ → List ℕ → ℕ → ℕ

@@ -12,10 +12,10 @@ use mir.Syntax.{w64}
 use mir.Val.{Fits}
 use Rattle.algebra.specs.Lists.{All}
 use Rattle.quotient.specs.Residue.{sum, scale, timesX}
-use Rattle.quotient.specs.Array.{padded, Holds}
+use Rattle.array.specs.Array.{padded, Holds}
 use Rattle.residue.specs.Delayed.{reduced, Delayed, Stepped}
-use Rattle.quotient.proofs.Painted.{painted, table, table-length, painted-next, painted-above}
-use Rattle.quotient.proofs.Padded.{array-fits, painted-array, take-padded, holds-word}
+use Rattle.array.proofs.Painted.{painted, table, table-length, painted-next, painted-above}
+use Rattle.array.proofs.Padded.{array-fits, painted-array, take-padded, holds-word}
 use Rattle.residue.proofs.Horner.{term, step-mod}
 
 all-table : (P : ℕ → Type 0) (f : ℕ → ℕ) (n : ℕ) → ((k : ℕ) → k < n → P (f k)) → All P (table f n)

@@ -8,13 +8,15 @@ use lib.ListN.{length, getD, take, drop, set, replicate, drop-of-length-le}
 use lib.Seq.{drop-cons, getD-take}
 use mir.Syntax.{w64}
 use mir.Val.{Fits}
-use Rattle.quotient.specs.Residue.{Words, none, more, sum, constant, product, substitute}
+use Rattle.array.specs.Words.{Words, none, more}
+use Rattle.quotient.specs.Residue.{sum, constant, product, substitute}
 use Rattle.algebra.proofs.RingLaws.{mul-zero}
 use Rattle.quotient.proofs.Sums.{sum-zero}
-use Rattle.quotient.proofs.Words.{words-length, drop-words, constant-words, product-words, substitute-words}
+use Rattle.quotient.proofs.Operations.{constant-words, product-words, substitute-words}
+use Rattle.array.proofs.Words.{words-length, drop-words}
 use Rattle.quotient.proofs.Ring.{residueRing, mulResidue, zeroResidue, constantResidue}
-use Rattle.quotient.specs.Array.{padded, Holds}
-use Rattle.quotient.proofs.Padded.{holds-word, holds-is, front-is}
+use Rattle.array.specs.Array.{padded, Holds}
+use Rattle.array.proofs.Padded.{holds-word, holds-is, front-is}
 use Rattle.residue.proofs.Power.{constant-array}
 
 zeros-sum : {p n : ℕ} {u : List ℕ} → Words p n u → sum p (replicate n 0) u ≡ u

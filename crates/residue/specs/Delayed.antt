@@ -9,7 +9,7 @@ use Prim.Native.Nat.{ℕ, _+_, _*_, _/_, _%_, _^_, _≤_}
 use lib.ListN.{take}
 use Rattle.algebra.specs.Lists.{All}
 use Rattle.quotient.specs.Residue.{sum, scale, timesX}
-use Rattle.quotient.specs.Array.{padded}
+use Rattle.array.specs.Array.{padded}
 
 pub record Reduction (p k r : ℕ) : Type 0 where
   pub big : 2 ≤ p

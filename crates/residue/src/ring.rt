@@ -9,7 +9,7 @@ ghost use mathlib.Core.Path.{_≡_};
 ghost use Prim.Native.Nat.{_+_, _-_, _*_, _/_, _%_, _^_, _≤_, _<_};
 ghost use lib.ListN.{getD, take, replicate};
 ghost use Rattle.quotient.specs.Residue.{constant, product as productOf, power as powerOf, residueOfX, substitute as substituteOf};
-ghost use Rattle.quotient.specs.Array.{padded, Holds};
+ghost use Rattle.array.specs.Array.{padded, Holds};
 ghost use Rattle.residue.specs.Delayed.{Reduction, reduced, Delayed, Stepped};
 
 // One step of Horner's rule: w becomes X·w + c·v. Its top word goes out as q·t, where q is the opposite of the top word modulo p; no other

@@ -8,8 +8,9 @@ use lib.ListN.{length}
 use Rattle.pair.specs.Pair.{forward, backward}
 use Rattle.pair.proofs.Theorem.{checker-theorem}
 use Rattle.quotient.specs.Map.{Undoes}
-use Rattle.quotient.specs.Residue.{Words, substitute}
-use Rattle.quotient.proofs.Words.{words-length}
+use Rattle.array.specs.Words.{Words}
+use Rattle.quotient.specs.Residue.{substitute}
+use Rattle.array.proofs.Words.{words-length}
 use Rattle.session.specs.Session.{paired, view, pairedSession, converted, convertNumber, imageForward, imageBack, forwardOutput, backOutput}
 use Rattle.session.specs.Theorem.{Reached, is-new, is-loaded, is-paired}
 use Rattle.session.specs.declared.Session.{Session}

@@ -13,13 +13,15 @@ use lib.ListN.{length, take, drop, length-drop, length-append}
 use lib.Seq.{length-take-le, drop-drop, take-at, take-all}
 use borrow.Rule.Slice.PartMut.{putMid, postOf, same-len-mid}
 use Rattle.algebra.specs.Lists.{range}
-use Rattle.quotient.specs.Residue.{Words, none, more, substitute}
-use Rattle.quotient.proofs.Words.{words-length, take-words, drop-words, substitute-words}
-use Rattle.quotient.specs.Array.{padded, Holds, rowProduct}
-use Rattle.residue.specs.Matrix.{Powers, matrixProduct}
-use Rattle.residue.proofs.Answers.{words-up}
-use Rattle.residue.proofs.PowerMatrix.{product-substitutes}
-use Rattle.quotient.proofs.Padded.{holds-is, front-is, take-padded}
+use Rattle.array.specs.Words.{Words, none, more}
+use Rattle.quotient.specs.Residue.{substitute}
+use Rattle.quotient.proofs.Operations.{substitute-words}
+use Rattle.array.proofs.Words.{words-length, take-words, drop-words}
+use Rattle.array.specs.Array.{padded, Holds, rowProduct}
+use Rattle.matrix.specs.Matrix.{Powers, matrixProduct}
+use Rattle.array.proofs.Words.{words-up}
+use Rattle.matrix.proofs.PowerMatrix.{product-substitutes}
+use Rattle.array.proofs.Padded.{holds-is, front-is, take-padded}
 use Rattle.session.specs.Session.{converted, tableNumber}
 use Rattle.session.proofs.Table.{Convertible, table-given}
 

@@ -9,8 +9,8 @@ use Prim.Native.Nat.{ℕ, _≤_}
 use borrow.Author.Tests.{not-true, not-false}
 use lib.ListN.{take}
 use Rattle.algebra.specs.Lists.{all}
-use Rattle.modular.specs.Refusal.{refuse, badPrime, badDegree, badWord}
-use Rattle.modular.proofs.Refusal.{refuse-none, degree-given}
+use Rattle.refusal.specs.Refusal.{refuse, badPrime, badDegree, badWord}
+use Rattle.refusal.proofs.Refusal.{refuse-none, degree-given}
 use Rattle.session.specs.Session.{valid, view, viewAs}
 use Rattle.session.specs.ViewState.{viewState}
 use Rattle.session.specs.declared.Session.{Session}

@@ -8,11 +8,11 @@ use native.Mathlib.Omega.{arith}
 use lib.ListN.{length, take, length-append}
 use lib.Seq.{take-at}
 use Rattle.finder.specs.Finder.{findS, findR, pairNumber, findNumber, findOutputS, findOutputR}
-use Rattle.pair.specs.Theorem.{Models}
-use Rattle.modular.specs.Refusal.{written}
+use Rattle.refusal.specs.Models.{Models}
+use Rattle.refusal.specs.Refusal.{written}
 use Rattle.pair.proofs.Theorem.{checker-theorem}
-use Rattle.modular.proofs.Refusal.{prime-given, degree-given}
-use Rattle.quotient.proofs.Words.{words-length}
+use Rattle.refusal.proofs.Refusal.{prime-given, degree-given}
+use Rattle.array.proofs.Words.{words-length}
 use Rattle.session.specs.ViewState.{viewState}
 use Rattle.session.specs.Session.{loaded, valid, view, pairedSession, answer, findFrom, find}
 use Rattle.session.specs.declared.Session.{Session}

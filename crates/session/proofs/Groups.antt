@@ -12,8 +12,10 @@ use native.Mathlib.Omega.{arith}
 use lib.ListN.{length, take, drop, length-append, length-replicate, take-append-drop}
 use lib.Seq.{take-at, drop-at, drop-drop}
 use Rattle.quotient.specs.Map.{Undoes}
-use Rattle.quotient.specs.Residue.{Words, none, sum, scale, constant, shift, timesX, product, substitute}
-use Rattle.quotient.proofs.Words.{take-words, drop-words, append-words, substitute-words}
+use Rattle.array.specs.Words.{Words, none}
+use Rattle.quotient.specs.Residue.{sum, scale, constant, shift, timesX, product, substitute}
+use Rattle.quotient.proofs.Operations.{substitute-words}
+use Rattle.array.proofs.Words.{take-words, drop-words, append-words}
 use Rattle.session.specs.Session.{converted}
 
 -- lengths, of lists of any words

@@ -5,10 +5,10 @@ use mathlib.Core.List.{List, [], _∷_}
 use Prim.Native.Nat.{ℕ, _≤_}
 use native.Mathlib.Omega.{arith}
 use lib.ListN.{length}
-use Rattle.pair.specs.Theorem.{Models}
-use Rattle.modular.specs.Refusal.{refuse, refuseSent, badPrime, badDegree}
-use Rattle.quotient.proofs.Words.{words-length}
-use Rattle.modular.proofs.Refusal.{refuse-none}
+use Rattle.refusal.specs.Models.{Models}
+use Rattle.refusal.specs.Refusal.{refuse, refuseSent, badPrime, badDegree}
+use Rattle.array.proofs.Words.{words-length}
+use Rattle.refusal.proofs.Refusal.{refuse-none}
 use Rattle.session.specs.ViewState.{viewState}
 use Rattle.session.specs.Session.{View, empty, loaded, paired, view, newSession, loadedSession, loadFrom, load, clear, answer}
 use Rattle.session.specs.declared.Session.{Session}

@@ -5,9 +5,9 @@ use mathlib.Core.List.{List, [], _∷_}
 use Prim.Native.Nat.{ℕ, _/_, _≤_}
 use native.Mathlib.Omega.{arith}
 use lib.ListN.{length, take}
-use Rattle.quotient.proofs.Words.{words-length}
-use Rattle.quotient.specs.Array.{padded, Holds}
-use Rattle.quotient.proofs.Padded.{holds-is, take-padded}
+use Rattle.array.proofs.Words.{words-length}
+use Rattle.array.specs.Array.{padded, Holds}
+use Rattle.array.proofs.Padded.{holds-is, take-padded}
 use Rattle.session.specs.ViewState.{viewState}
 use Rattle.session.specs.Session.{View, empty, loaded, paired, valid, view, converted, tableNumber, convertNumber, imageForward, imageBack, convert, forwardOutput, backOutput}
 use Rattle.session.specs.declared.Session.{Session}

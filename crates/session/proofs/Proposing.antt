@@ -5,12 +5,12 @@ use mathlib.Core.List.{List, [], _∷_}
 use Prim.Native.Nat.{ℕ, _≤_}
 use native.Mathlib.Omega.{arith}
 use lib.ListN.{length, take}
-use Rattle.modular.specs.Refusal.{refuse, badLength, badWord}
+use Rattle.refusal.specs.Refusal.{refuse, badLength, badWord}
 use Rattle.pair.specs.Pair.{accepts, checkNumber}
-use Rattle.modular.proofs.Refusal.{refuse-none}
-use Rattle.quotient.proofs.Refusal.{words-given}
-use Rattle.quotient.proofs.Words.{words-length}
-use Rattle.quotient.specs.Residue.{Words}
+use Rattle.refusal.proofs.Refusal.{refuse-none}
+use Rattle.refusal.proofs.Lists.{words-given}
+use Rattle.array.proofs.Words.{words-length}
+use Rattle.array.specs.Words.{Words}
 use Rattle.session.specs.ViewState.{viewState}
 use Rattle.session.specs.Session.{View, empty, loaded, paired, valid, view, pairedSession, answer, proposeFrom, propose}
 use Rattle.session.specs.declared.Session.{Session}

@@ -12,17 +12,18 @@ use lib.ListN.{take, replicate}
 use Rattle.algebra.specs.Lists.{All}
 use Rattle.finder.specs.Finder.{findS, findR, pairNumber, findNumber, findOutputS, findOutputR}
 use Rattle.finder.proofs.Theorem.{demand-3}
-use Rattle.modular.specs.Refusal.{refuse, refuseSent, badLength, badWord}
+use Rattle.refusal.specs.Refusal.{refuse, refuseSent, badLength, badWord}
 use Rattle.pair.specs.Pair.{accepts, checkNumber}
-use Rattle.pair.specs.Theorem.{Models, Given}
+use Rattle.refusal.specs.Models.{Models}
+use Rattle.pair.specs.Theorem.{Given}
 use Rattle.pair.proofs.Accepts.{congruences-accepted}
 use Rattle.pair.proofs.Theorem.{checker-theorem}
-use Rattle.quotient.specs.Residue.{Words}
-use Rattle.modular.proofs.Refusal.{refuse-none, given-prime, given-degree, sent-given, given-sent}
-use Rattle.quotient.proofs.Refusal.{words-given, given-lengths, given-words}
-use Rattle.quotient.proofs.Words.{words-length, zeros-words}
-use Rattle.quotient.specs.Array.{padded}
-use Rattle.quotient.proofs.Padded.{take-padded}
+use Rattle.array.specs.Words.{Words}
+use Rattle.refusal.proofs.Refusal.{refuse-none, given-prime, given-degree, sent-given, given-sent}
+use Rattle.refusal.proofs.Lists.{words-given, given-lengths, given-words}
+use Rattle.array.proofs.Words.{words-length, zeros-words}
+use Rattle.array.specs.Array.{padded}
+use Rattle.array.proofs.Padded.{take-padded}
 use Rattle.session.specs.Session.{View, empty, loaded, paired, valid, viewAs, view, newSession, loadedSession, pairedSession, answer, loadFrom, load, proposeFrom, propose, findFrom, find, convert, clear}
 use Rattle.session.specs.Theorem.{Call, callLoad, callPropose, callFind, callForward, callBack, callClear, next, run, Reached, is-new, is-loaded, is-paired}
 use Rattle.session.specs.declared.Session.{Session}

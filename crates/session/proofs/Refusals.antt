@@ -7,7 +7,8 @@ use borrow.Author.Tests.{le-leb, lt-leb, le-ltb, lt-ltb, eq-eqb, ne-eqb, not-tru
 use lib.ListN.{length}
 use Rattle.algebra.specs.Lists.{all}
 use Rattle.modular.specs.Prime.{isPrime}
-use Rattle.modular.specs.Refusal.{refuse, badPrime, badDegree, badLength, badWord, allBelow}
+use Rattle.array.specs.Words.{allBelow}
+use Rattle.refusal.specs.Refusal.{refuse, badPrime, badDegree, badLength, badWord}
 use Rattle.session.specs.Session.{tableNumber}
 
 -- 1 and 2

@@ -8,7 +8,8 @@ use mathlib.Core.List.{List, [], _∷_}
 use Prim.Native.Nat.{ℕ}
 use lib.ListN.{take}
 use Rattle.algebra.specs.Lists.{all}
-use Rattle.modular.specs.Refusal.{badPrime, badDegree, badWord, allBelow}
+use Rattle.array.specs.Words.{allBelow}
+use Rattle.refusal.specs.Refusal.{badPrime, badDegree, badWord}
 use Rattle.session.specs.ViewState.{viewState}
 use Rattle.session.specs.Session.{View, empty, loaded, paired, valid, ifValid, view, viewAs}
 use Rattle.session.specs.declared.Session.{Session}

@@ -10,10 +10,10 @@ use lib.Dec.{eqb, ltb}
 use lib.ListN.{length}
 use borrow.Author.Tests.{not-false, eqb-true, eq-eqb, ltb-false, le-ltb}
 use Rattle.algebra.specs.Lists.{all}
-use Rattle.modular.specs.Refusal.{badLength, badWord}
-use Rattle.quotient.specs.Residue.{Words}
-use Rattle.modular.proofs.Refusal.{refuse-none}
-use Rattle.quotient.proofs.Refusal.{words-given, given-words}
+use Rattle.refusal.specs.Refusal.{badLength, badWord}
+use Rattle.array.specs.Words.{Words}
+use Rattle.refusal.proofs.Refusal.{refuse-none}
+use Rattle.refusal.proofs.Lists.{words-given, given-words}
 use Rattle.session.specs.Session.{tableNumber}
 
 pub record Convertible (p n : ℕ) (table out : List ℕ) : Type 0 where

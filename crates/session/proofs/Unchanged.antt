@@ -4,7 +4,7 @@ use mathlib.Core.Path.{_≡_, refl, ap}
 use mathlib.Core.List.{List}
 use Prim.Native.Nat.{ℕ}
 use borrow.Author.Tests.{ne-eqb}
-use Rattle.modular.specs.Refusal.{pick, written}
+use Rattle.refusal.specs.Refusal.{pick, written}
 use Rattle.session.specs.Session.{View, empty, loaded, paired, view, loadFrom, load, proposeFrom, propose, findFrom, find, convertNumber, convert, forwardOutput, backOutput}
 use Rattle.session.specs.Theorem.{RefusalsChangeNothing}
 use Rattle.session.specs.declared.Session.{Session}

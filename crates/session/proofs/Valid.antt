@@ -12,10 +12,10 @@ use lib.Dec.{eqb}
 use lib.ListN.{length, take, length-take}
 use lib.Seq.{length-take-le}
 use Rattle.algebra.specs.Lists.{all}
-use Rattle.modular.specs.Refusal.{badPrime, badDegree, badLength, badWord, allBelow}
-use Rattle.quotient.specs.Residue.{Words}
-use Rattle.modular.proofs.Refusal.{prime-given, degree-given}
-use Rattle.quotient.proofs.Refusal.{words-given}
+use Rattle.array.specs.Words.{allBelow, Words}
+use Rattle.refusal.specs.Refusal.{badPrime, badDegree, badLength, badWord}
+use Rattle.refusal.proofs.Refusal.{prime-given, degree-given}
+use Rattle.refusal.proofs.Lists.{words-given}
 use Rattle.session.specs.Session.{valid}
 
 module _ (p n : ℕ) (xss : List (List ℕ)) (h : valid p n xss ≡ true) where

@@ -3,7 +3,7 @@ use mathlib.Core.Path.{_≡_}
 use mathlib.Core.List.{List}
 use Prim.Native.Nat.{ℕ}
 use lib.ListN.{replicate}
-use Rattle.quotient.specs.Array.{padded}
+use Rattle.array.specs.Array.{padded}
 use Rattle.session.specs.Session.{loadedSession, pairedSession}
 use Rattle.session.specs.declared.State.the-variants.{Loaded, Paired}
 

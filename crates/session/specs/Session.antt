@@ -17,10 +17,10 @@ use Prim.Native.Nat.{ℕ, zero, suc, _/_, _%_}
 use lib.Dec.{ltb, eqb}
 use lib.ListN.{length, take, drop, replicate}
 use Rattle.finder.specs.Finder.{findS, findR, pairNumber}
-use Rattle.modular.specs.Refusal.{refuse, refuseSent, badPrime, badDegree, badLength, badWord, written}
+use Rattle.refusal.specs.Refusal.{refuse, refuseSent, badPrime, badDegree, badLength, badWord, written}
 use Rattle.pair.specs.Pair.{accepts}
 use Rattle.quotient.specs.Residue.{substitute}
-use Rattle.quotient.specs.Array.{padded}
+use Rattle.array.specs.Array.{padded}
 use Rattle.session.specs.declared.Session.{Session}
 use Rattle.session.specs.declared.State.{State}
 use Rattle.session.specs.declared.State.the-variants.{Empty, Loaded, Paired}

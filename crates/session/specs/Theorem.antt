@@ -14,7 +14,7 @@ use mathlib.Core.Path.{_≡_}
 use mathlib.Core.List.{List, [], _∷_}
 use Prim.Native.Nat.{ℕ, _*_, _/_, _<_}
 use lib.ListN.{length, take, drop}
-use Rattle.pair.specs.Theorem.{Models}
+use Rattle.refusal.specs.Models.{Models}
 use Rattle.pair.specs.Pair.{forward, backward, checkNumber}
 use Rattle.session.specs.Session.{empty, loaded, paired, view, newSession, loadedSession, pairedSession, load, propose, find, convert, forwardOutput, backOutput, clear, convertNumber}
 use Rattle.session.specs.declared.Session.{Session}

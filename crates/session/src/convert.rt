@@ -4,22 +4,23 @@ use crate::State;
 use crate::Step;
 use crate::refusal::table_number;
 use crate::view::counts_as;
-use residue::array::load;
-use residue::array::store;
-use residue::matrix::apply;
-use residue::matrix::powers;
+use array::Word;
+use array::copy::load;
+use array::copy::store;
+use matrix::powers::apply;
+use matrix::powers::powers;
 ghost use mathlib.Core.Bool.{true};
 ghost use mathlib.Core.List.{[], _∷_};
 ghost use mathlib.Core.Path.{_≡_};
 ghost use Prim.Native.Nat.{_/_, _^_, _≤_};
 ghost use lib.ListN.{length, take};
-ghost use Rattle.quotient.specs.Residue.{Words};
-ghost use Rattle.quotient.specs.Array.{Holds, Square};
-ghost use Rattle.residue.specs.Matrix.{matrixProduct};
+ghost use Rattle.array.specs.Words.{Words};
+ghost use Rattle.array.specs.Array.{Holds, Square};
+ghost use Rattle.matrix.specs.Matrix.{matrixProduct};
 ghost use Rattle.session.specs.Session.{view, valid, converted, tableNumber, convertNumber, convert as convertOf, forwardOutput, backOutput};
 
 // The image of a group of n words, by the matrix of the powers of S.
-fn convert_group(p: u64, n: usize, m: &[u64; 256], group: &[u16], out: &mut [u16])
+fn convert_group(p: u64, n: usize, m: &[u64; 256], group: &[Word], out: &mut [Word])
     requires { ⌜ (2 ≤ p) × (p ≤ 2 ^ 16) × (n ≤ 16) × (length (now out) ≡ n) ⌝ }
     requires { ⌜ Square p n (now m) × Words p n (now group) ⌝ }
     ensures { λ _. ⌜ now (out .exit) ≡ matrixProduct p n (now (m .entry)) (now (group .entry)) ⌝ }
@@ -30,7 +31,7 @@ fn convert_group(p: u64, n: usize, m: &[u64; 256], group: &[u16], out: &mut [u16
 }
 
 // The images of the groups of n words of a table under u ↦ u(S) modulo T, one after the other. The powers of S are worked out once.
-fn convert(p: u64, n: usize, t: &[u64; 16], s: &[u64; 16], table: &[u16], out: &mut [u16])
+fn convert(p: u64, n: usize, t: &[u64; 16], s: &[u64; 16], table: &[Word], out: &mut [Word])
     requires { ⌜ (2 ≤ p) × (p ≤ 2 ^ 16) × (1 ≤ n) × (n ≤ 16) ⌝ }
     requires { ⌜ Holds p n (now t) × Holds p n (now s) ⌝ }
     requires { ⌜ tableNumber p n (now table) (now out) ≡ 0 ⌝ }
@@ -47,7 +48,7 @@ fn convert(p: u64, n: usize, t: &[u64; 16], s: &[u64; 16], table: &[u16], out: &
 }
 
 // The number of a conversion.
-fn convert_number(x: Session, table: &[u16], out: &[u16]) -> u32
+fn convert_number(x: Session, table: &[Word], out: &[Word]) -> u32
     ensures { λ r. ⌜ r ≡ convertNumber (view x) (now (table .entry)) (now (out .entry)) ⌝ }
 {
     let state = counts_as(x);
@@ -59,7 +60,7 @@ fn convert_number(x: Session, table: &[u16], out: &[u16]) -> u32
 }
 
 // The conversion where neither a session's p, n and words nor the table are refused: T and S are the first n words of the arrays.
-fn convert_words(p: u32, n: u32, t: [u16; 16], s: [u16; 16], table: &[u16], out: &mut [u16])
+fn convert_words(p: u32, n: u32, t: [Word; 16], s: [Word; 16], table: &[Word], out: &mut [Word])
     requires { ⌜ valid p n (take n t ∷ take n s ∷ []) ≡ true ⌝ }
     requires { ⌜ tableNumber p n (now table) (now out) ≡ 0 ⌝ }
     ensures { λ _. ⌜ now (out .exit) ≡ converted p n (take n t) (take n s) (length (now (table .entry)) / n) (now (table .entry)) ⌝ }
@@ -72,7 +73,7 @@ fn convert_words(p: u32, n: u32, t: [u16; 16], s: [u16; 16], table: &[u16], out:
 
 impl Session {
     // Each group of n words of the table becomes its image under u ↦ u(S) modulo T2: 21, 22, 9, 10, 4.
-    pub fn forward(self, table: &[u16], out: &mut [u16]) -> Step
+    pub fn forward(self, table: &[Word], out: &mut [Word]) -> Step
         ensures { λ r. ⌜ r ≡ convertOf self (now (table .entry)) (now (out .entry)) ⌝ }
         ensures { λ _. ⌜ now (out .exit) ≡ forwardOutput self (now (table .entry)) (now (out .entry)) ⌝ }
     {
@@ -89,7 +90,7 @@ impl Session {
     }
 
     // The same under u ↦ u(R) modulo T1.
-    pub fn back(self, table: &[u16], out: &mut [u16]) -> Step
+    pub fn back(self, table: &[Word], out: &mut [Word]) -> Step
         ensures { λ r. ⌜ r ≡ convertOf self (now (table .entry)) (now (out .entry)) ⌝ }
         ensures { λ _. ⌜ now (out .exit) ≡ backOutput self (now (table .entry)) (now (out .entry)) ⌝ }
     {

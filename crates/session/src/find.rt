@@ -4,6 +4,7 @@ use crate::State;
 use crate::Step;
 use crate::value::paired;
 use crate::view::counts_as;
+use array::Word;
 use finder::find::find as find_pair;
 ghost use mathlib.Core.Bool.{true};
 ghost use mathlib.Core.List.{[], _∷_};
@@ -17,10 +18,10 @@ fn find_loaded(
     x: Session,
     p: u32,
     n: u32,
-    t1: [u16; 16],
-    t2: [u16; 16],
-    mut s: [u16; 16],
-    mut r: [u16; 16],
+    t1: [Word; 16],
+    t2: [Word; 16],
+    mut s: [Word; 16],
+    mut r: [Word; 16],
 ) -> Step
     requires { ⌜ valid p n (take n t1 ∷ take n t2 ∷ []) ≡ true ⌝ }
     ensures { λ y. ⌜ y ≡ findFrom (loadedWith p n (take n t1) (take n t2)) x ⌝ }

@@ -17,6 +17,7 @@ mod view;
 
 ghost use mathlib.Core.Path.{_≡_};
 ghost use Rattle.session.specs.Session.{newSession, clear as clearOf};
+use array::Word;
 
 // What a session holds: nothing; p, n, T1 and T2; also S and R.
 pub enum State {
@@ -30,10 +31,10 @@ pub struct Session {
     pub state: State,
     pub p: u32,
     pub n: u32,
-    pub t1: [u16; 16],
-    pub t2: [u16; 16],
-    pub s: [u16; 16],
-    pub r: [u16; 16],
+    pub t1: [Word; 16],
+    pub t2: [Word; 16],
+    pub s: [Word; 16],
+    pub r: [Word; 16],
 }
 
 // A call's answer: 0 or the number of the refusal, and the next session.

@@ -4,17 +4,18 @@ use crate::State;
 use crate::Step;
 use crate::value::paired;
 use crate::view::counts_as;
+use array::Word;
 use pair::checker::check;
 ghost use mathlib.Core.Bool.{true, not};
 ghost use mathlib.Core.List.{[], _∷_};
 ghost use mathlib.Core.Path.{_≡_};
 ghost use lib.ListN.{take};
-ghost use Rattle.modular.specs.Refusal.{refuse, badLength, badWord};
+ghost use Rattle.refusal.specs.Refusal.{refuse, badLength, badWord};
 ghost use Rattle.pair.specs.Pair.{accepts};
 ghost use Rattle.session.specs.Session.{valid, propose as proposeOf};
 
 // 3, 4 and 8, of a pair for two models to which 1, 2 and 4 do not apply: the answer of the checker.
-fn pair_number(p: u32, n: u32, t1: [u16; 16], t2: [u16; 16], s: &[u16], r: &[u16]) -> u32
+fn pair_number(p: u32, n: u32, t1: [Word; 16], t2: [Word; 16], s: &[Word], r: &[Word]) -> u32
     requires { ⌜ valid p n (take n t1 ∷ take n t2 ∷ []) ≡ true ⌝ }
     ensures { λ k. ⌜ k ≡ refuse 3 (badLength n (now (s .entry) ∷ now (r .entry) ∷ [])) (refuse 4 (badWord p (now (s .entry) ∷ now (r .entry) ∷ [])) (refuse 8 (not (accepts p (take n t1) (take n t2) (now (s .entry)) (now (r .entry)))) 0)) ⌝ }
 {
@@ -23,7 +24,7 @@ fn pair_number(p: u32, n: u32, t1: [u16; 16], t2: [u16; 16], s: &[u16], r: &[u16
 }
 
 // The number of a call of propose.
-fn propose_number(x: Session, s: &[u16], r: &[u16]) -> u32
+fn propose_number(x: Session, s: &[Word], r: &[Word]) -> u32
     ensures { λ k. ⌜ k ≡ proposeOf x (now (s .entry)) (now (r .entry)) .number ⌝ }
 {
     let state = counts_as(x);
@@ -38,7 +39,7 @@ fn propose_number(x: Session, s: &[u16], r: &[u16]) -> u32
 
 impl Session {
     // The session with a pair that the checker accepts: 21, 24, 3, 4, 8.
-    pub fn propose(self, s: &[u16], r: &[u16]) -> Step
+    pub fn propose(self, s: &[Word], r: &[Word]) -> Step
         ensures { λ y. ⌜ y ≡ proposeOf self (now (s .entry)) (now (r .entry)) ⌝ }
     {
         let number = propose_number(self, s, r);

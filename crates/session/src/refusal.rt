@@ -1,12 +1,13 @@
 // The refusals that a session's calls share, each number for the first condition that applies, and 0 where none does.
 use crate::Session;
-use modular::list::below;
+use array::Word;
+use array::list::below;
 use modular::prime::is_prime;
 ghost use mathlib.Core.Bool.{not};
 ghost use mathlib.Core.List.{[], _∷_};
 ghost use mathlib.Core.Path.{_≡_};
 ghost use Prim.Native.Nat.{_≤_};
-ghost use Rattle.modular.specs.Refusal.{refuse, badPrime, badDegree, badLength, badWord};
+ghost use Rattle.refusal.specs.Refusal.{refuse, badPrime, badDegree, badLength, badWord};
 ghost use Rattle.session.specs.Session.{tableNumber};
 
 // 1 and 2.
@@ -26,7 +27,7 @@ pub fn size_number(p: u32, n: u32) -> u32
 }
 
 // Whether 4 does not apply to two lists.
-pub fn both_below(p: u32, a: &[u16], b: &[u16]) -> bool
+pub fn both_below(p: u32, a: &[Word], b: &[Word]) -> bool
     ensures { λ r. ⌜ r ≡ not (badWord p (now (a .entry) ∷ now (b .entry) ∷ [])) ⌝ }
 {
     if !below(p, a) {
@@ -36,7 +37,7 @@ pub fn both_below(p: u32, a: &[u16], b: &[u16]) -> bool
 }
 
 // 3 and 4, of two lists.
-pub fn lists_number(p: u32, n: u32, a: &[u16], b: &[u16]) -> u32
+pub fn lists_number(p: u32, n: u32, a: &[Word], b: &[Word]) -> u32
     ensures { λ r. ⌜ r ≡ refuse 3 (badLength n (now (a .entry) ∷ now (b .entry) ∷ [])) (refuse 4 (badWord p (now (a .entry) ∷ now (b .entry) ∷ [])) 0) ⌝ }
 {
     if a.len() != n as usize {
@@ -49,7 +50,7 @@ pub fn lists_number(p: u32, n: u32, a: &[u16], b: &[u16]) -> u32
 }
 
 // 9, 10 and 4, of a table and the list for its image.
-pub fn table_number(p: u32, n: usize, table: &[u16], out: &[u16]) -> u32
+pub fn table_number(p: u32, n: usize, table: &[Word], out: &[Word]) -> u32
     requires { ⌜ 1 ≤ n ⌝ }
     ensures { λ r. ⌜ r ≡ tableNumber p n (now (table .entry)) (now (out .entry)) ⌝ }
 {

@@ -3,6 +3,7 @@ use crate::Session;
 use crate::State;
 use crate::refusal::both_below;
 use crate::refusal::size_number;
+use array::Word;
 ghost use mathlib.Core.List.{[], _∷_};
 ghost use mathlib.Core.Path.{_≡_};
 ghost use lib.ListN.{take};
@@ -10,7 +11,7 @@ ghost use Rattle.session.specs.ViewState.{viewState};
 ghost use Rattle.session.specs.Session.{view, valid};
 
 // Whether 1, 2 and 4 refuse neither p nor n nor a word of T1 and T2.
-fn models_valid(p: u32, n: u32, t1: [u16; 16], t2: [u16; 16]) -> bool
+fn models_valid(p: u32, n: u32, t1: [Word; 16], t2: [Word; 16]) -> bool
     ensures { λ r. ⌜ r ≡ valid p n (take n t1 ∷ take n t2 ∷ []) ⌝ }
 {
     if size_number(p, n) != 0 {
@@ -21,7 +22,7 @@ fn models_valid(p: u32, n: u32, t1: [u16; 16], t2: [u16; 16]) -> bool
 }
 
 // The same of S and R too.
-fn pair_valid(p: u32, n: u32, t1: [u16; 16], t2: [u16; 16], s: [u16; 16], r: [u16; 16]) -> bool
+fn pair_valid(p: u32, n: u32, t1: [Word; 16], t2: [Word; 16], s: [Word; 16], r: [Word; 16]) -> bool
     ensures { λ b. ⌜ b ≡ valid p n (take n t1 ∷ take n t2 ∷ take n s ∷ take n r ∷ []) ⌝ }
 {
     if !models_valid(p, n, t1, t2) {

@@ -143,14 +143,14 @@ pub struct Card {
 
 /// Reads a card; its words go into the first places of `words`, which has 64.
 pub fn read_card(card: &[u8], words: &mut [u16]) -> Result<Card, Refusal> {
-    let found = unsafe { raw::yokebean_read_card(card.as_ptr(), card.len(), words.as_mut_ptr(), words.len()) };
+    let found = unsafe { raw::yokebean_card_read(card.as_ptr(), card.len(), words.as_mut_ptr(), words.len()) };
     answer(found.number, Card { size: Size { p: found.p, n: found.n }, kind: found.kind })
 }
 
 /// Writes a card into a list of exactly its length: (24 + 2·kind·n·w + 7) / 8 bytes, rounded down, where w is the number of binary digits of p − 1.
 pub fn write_card(card: Card, words: &[u16], out: &mut [u8]) -> Result<(), Refusal> {
     let Card { size: Size { p, n }, kind } = card;
-    let number = unsafe { raw::yokebean_write_card(p, n, kind, words.as_ptr(), words.len(), out.as_mut_ptr(), out.len()) };
+    let number = unsafe { raw::yokebean_card_write(p, n, kind, words.as_ptr(), words.len(), out.as_mut_ptr(), out.len()) };
     answer(number, ())
 }
 
@@ -167,7 +167,7 @@ impl Default for Session {
 impl Session {
     /// A new session is empty.
     pub fn new() -> Self {
-        Session(unsafe { raw::yokebean_new() })
+        Session(unsafe { raw::yokebean_session_new() })
     }
 
     fn next(step: raw::Step) -> Result<Self, Refusal> {
@@ -176,33 +176,33 @@ impl Session {
 
     /// Empty to loaded.
     pub fn load(self, size: Size, t1: &[u16], t2: &[u16]) -> Result<Self, Refusal> {
-        Self::next(unsafe { raw::yokebean_load(self.0, size.p, size.n, t1.as_ptr(), t1.len(), t2.as_ptr(), t2.len()) })
+        Self::next(unsafe { raw::yokebean_session_load(self.0, size.p, size.n, t1.as_ptr(), t1.len(), t2.as_ptr(), t2.len()) })
     }
 
     /// Loaded to paired, if the checker accepts.
     pub fn propose(self, s: &[u16], r: &[u16]) -> Result<Self, Refusal> {
-        Self::next(unsafe { raw::yokebean_propose(self.0, s.as_ptr(), s.len(), r.as_ptr(), r.len()) })
+        Self::next(unsafe { raw::yokebean_session_propose(self.0, s.as_ptr(), s.len(), r.as_ptr(), r.len()) })
     }
 
     /// Loaded to paired, with the finder's pair.
     pub fn find(self) -> Result<Self, Refusal> {
-        Self::next(unsafe { raw::yokebean_find_pair(self.0) })
+        Self::next(unsafe { raw::yokebean_session_find(self.0) })
     }
 
     /// Converts a table of residues modulo T1 into residues modulo T2.
     pub fn forward(self, table: &[u16], out: &mut [u16]) -> Result<(), Refusal> {
-        let step = unsafe { raw::yokebean_forward(self.0, table.as_ptr(), table.len(), out.as_mut_ptr(), out.len()) };
+        let step = unsafe { raw::yokebean_session_forward(self.0, table.as_ptr(), table.len(), out.as_mut_ptr(), out.len()) };
         answer(step.number, ())
     }
 
     /// Converts a table of residues modulo T2 into residues modulo T1.
     pub fn back(self, table: &[u16], out: &mut [u16]) -> Result<(), Refusal> {
-        let step = unsafe { raw::yokebean_back(self.0, table.as_ptr(), table.len(), out.as_mut_ptr(), out.len()) };
+        let step = unsafe { raw::yokebean_session_back(self.0, table.as_ptr(), table.len(), out.as_mut_ptr(), out.len()) };
         answer(step.number, ())
     }
 
     /// Any state to empty.
     pub fn clear(self) -> Self {
-        Session(unsafe { raw::yokebean_clear(self.0) }.session)
+        Session(unsafe { raw::yokebean_session_clear(self.0) }.session)
     }
 }

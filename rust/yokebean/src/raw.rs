@@ -40,13 +40,13 @@ extern "C" {
     pub fn yokebean_power(p: u32, n: u32, t: Words, t_len: usize, u: Words, u_len: usize, k: u64, out: Lent, out_len: usize) -> u32;
     pub fn yokebean_check(p: u32, n: u32, t1: Words, t1_len: usize, t2: Words, t2_len: usize, s: Words, s_len: usize, r: Words, r_len: usize) -> u32;
     pub fn yokebean_find(p: u32, n: u32, t1: Words, t1_len: usize, t2: Words, t2_len: usize, s: Lent, s_len: usize, r: Lent, r_len: usize) -> u32;
-    pub fn yokebean_read_card(card: *const u8, card_len: usize, words: Lent, words_len: usize) -> Card;
-    pub fn yokebean_write_card(p: u32, n: u32, kind: u32, words: Words, words_len: usize, card: *mut u8, card_len: usize) -> u32;
-    pub fn yokebean_new() -> Session;
-    pub fn yokebean_load(session: Session, p: u32, n: u32, t1: Words, t1_len: usize, t2: Words, t2_len: usize) -> Step;
-    pub fn yokebean_propose(session: Session, s: Words, s_len: usize, r: Words, r_len: usize) -> Step;
-    pub fn yokebean_find_pair(session: Session) -> Step;
-    pub fn yokebean_forward(session: Session, table: Words, table_len: usize, out: Lent, out_len: usize) -> Step;
-    pub fn yokebean_back(session: Session, table: Words, table_len: usize, out: Lent, out_len: usize) -> Step;
-    pub fn yokebean_clear(session: Session) -> Step;
+    pub fn yokebean_card_read(card: *const u8, card_len: usize, words: Lent, words_len: usize) -> Card;
+    pub fn yokebean_card_write(p: u32, n: u32, kind: u32, words: Words, words_len: usize, card: *mut u8, card_len: usize) -> u32;
+    pub fn yokebean_session_new() -> Session;
+    pub fn yokebean_session_load(session: Session, p: u32, n: u32, t1: Words, t1_len: usize, t2: Words, t2_len: usize) -> Step;
+    pub fn yokebean_session_propose(session: Session, s: Words, s_len: usize, r: Words, r_len: usize) -> Step;
+    pub fn yokebean_session_find(session: Session) -> Step;
+    pub fn yokebean_session_forward(session: Session, table: Words, table_len: usize, out: Lent, out_len: usize) -> Step;
+    pub fn yokebean_session_back(session: Session, table: Words, table_len: usize, out: Lent, out_len: usize) -> Step;
+    pub fn yokebean_session_clear(session: Session) -> Step;
 }

@@ -9,26 +9,26 @@ pub fn number<T>(answer: Result<T, Refusal>) -> u32 {
 }
 
 pub fn new() -> Session {
-    unsafe { raw::yokebean_new() }
+    unsafe { raw::yokebean_session_new() }
 }
 
 pub fn load(session: Session, p: u32, n: u32, t1: &[u16], t2: &[u16]) -> Step {
-    unsafe { raw::yokebean_load(session, p, n, t1.as_ptr(), t1.len(), t2.as_ptr(), t2.len()) }
+    unsafe { raw::yokebean_session_load(session, p, n, t1.as_ptr(), t1.len(), t2.as_ptr(), t2.len()) }
 }
 
 pub fn propose(session: Session, s: &[u16], r: &[u16]) -> Step {
-    unsafe { raw::yokebean_propose(session, s.as_ptr(), s.len(), r.as_ptr(), r.len()) }
+    unsafe { raw::yokebean_session_propose(session, s.as_ptr(), s.len(), r.as_ptr(), r.len()) }
 }
 
 pub fn find_pair(session: Session) -> Step {
-    unsafe { raw::yokebean_find_pair(session) }
+    unsafe { raw::yokebean_session_find(session) }
 }
 
 pub fn convert(session: Session, forward: bool, table: &[u16], out: &mut [u16]) -> Step {
-    let call = if forward { raw::yokebean_forward } else { raw::yokebean_back };
+    let call = if forward { raw::yokebean_session_forward } else { raw::yokebean_session_back };
     unsafe { call(session, table.as_ptr(), table.len(), out.as_mut_ptr(), out.len()) }
 }
 
 pub fn clear(session: Session) -> Step {
-    unsafe { raw::yokebean_clear(session) }
+    unsafe { raw::yokebean_session_clear(session) }
 }

@@ -16,7 +16,7 @@ fn compare_read(bytes: &[u8], lent: Vec<u16>, tally: &mut Tally) {
         Err(number) => (number, (0, 0, 0), lent.clone()),
     };
     let mut words = lent;
-    let got = unsafe { raw::yokebean_read_card(bytes.as_ptr(), bytes.len(), words.as_mut_ptr(), words.len()) };
+    let got = unsafe { raw::yokebean_card_read(bytes.as_ptr(), bytes.len(), words.as_mut_ptr(), words.len()) };
     tally.compare("read_card", number, &bytes, &((got.number, (got.p, got.n, got.kind)), words), &((number, fields), list));
 }
 

@@ -3,7 +3,7 @@ use mathlib.Core.Path.{_≡_, refl}
 use Prim.Native.Nat.{_-_, _≤_}
 use lib.ListN.{drop}
 use borrow.Author.Needs.{needs}
-use Rattle.modular.specs.Refusal.{allBelow}
+use Rattle.array.specs.Words.{allBelow}
 use Rattle.card.specs.Bits.{unpacked}
 use Rattle.card.specs.Card.{fieldsAt}
 use Rattle.card.proofs.Scans.{words-next, words-fail, words-hold, place-fits}

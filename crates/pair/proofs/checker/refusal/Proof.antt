@@ -1,6 +1,6 @@
 -- `refusal` meets its contract: the first condition that applies gives the number.
 use borrow.Author.Needs.{needs}
-use Rattle.residue.proofs.Refusals.{first-is}
+use Rattle.arithmetic.proofs.Refusals.{first-is}
 use Rattle.pair.proofs.checker.refusal.Statement.{statement}
 use Rattle.pair.proofs.checker.refusal.Tie as tie
 

@@ -4,7 +4,7 @@ use mathlib.Core.Path.{_≡_}
 use Prim.Native.Nat.{_≤_}
 use lib.ListN.{take, drop}
 use Rattle.quotient.specs.Residue.{substitute}
-use Rattle.quotient.specs.Array.{padded}
+use Rattle.array.specs.Array.{padded}
 use Rattle.residue.proofs.Substitute.{substitute-starts, substitute-holds, substitute-fits, substitute-turn, substitute-done}
 use Rattle.residue.proofs.ring.horner.Statement.{statement}
 use Rattle.residue.proofs.ring.horner.Tie as tie

@@ -4,7 +4,7 @@ use mathlib.Core.Path.{_≡_, refl}
 use mathlib.Core.List.{_∷_}
 use Prim.Native.Nat.{_-_, _≤_}
 use lib.ListN.{getD}
-use Rattle.quotient.proofs.Painted.{painted, painted-none}
+use Rattle.array.proofs.Painted.{painted, painted-none}
 use Rattle.residue.proofs.Horner.{term}
 use Rattle.residue.proofs.Step.{word-short, carry-fits, entry-fits, carry-turn, step-turn, step-done}
 use Rattle.residue.proofs.ring.step.Statement.{statement}

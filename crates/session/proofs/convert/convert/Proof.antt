@@ -2,7 +2,7 @@
 use borrow.Author.Needs.{needs}
 use Prim.Native.Nat.{_-_}
 use lib.ListN.{length}
-use Rattle.residue.proofs.PowerMatrix.{square-of-powers}
+use Rattle.matrix.proofs.PowerMatrix.{square-of-powers}
 use Rattle.session.proofs.Converting.{Progress, starts, group-ends, output-ends, output-part, part-words, turn, done, keeps-length}
 use Rattle.session.proofs.convert.convert.Statement.{statement}
 use Rattle.session.proofs.convert.convert.Tie as tie

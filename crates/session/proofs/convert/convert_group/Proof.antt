@@ -1,6 +1,6 @@
 -- `convert_group` meets its contract: one reduction for each word of the image.
 use borrow.Author.Needs.{needs}
-use Rattle.quotient.proofs.Padded.{holds-is}
+use Rattle.array.proofs.Padded.{holds-is}
 use Rattle.session.proofs.Converting.{group-short, product-holds, store-holds, group-done}
 use Rattle.session.proofs.convert.convert_group.Statement.{statement}
 use Rattle.session.proofs.convert.convert_group.Tie as tie

@@ -3,8 +3,8 @@ use borrow.Author.Needs.{needs}
 use mathlib.Core.Path.{_≡_}
 use Prim.Native.Nat.{_-_, _≤_}
 use lib.ListN.{length}
-use Rattle.quotient.proofs.Painted.{painted, painted-none}
-use Rattle.residue.proofs.Copy.{entry, copy-turn, load-done}
+use Rattle.array.proofs.Painted.{painted, painted-none}
+use Rattle.array.proofs.Copying.{entry, copy-turn, load-done}
 use Rattle.session.proofs.value.array.Statement.{statement}
 use Rattle.session.proofs.value.array.Tie as tie
 

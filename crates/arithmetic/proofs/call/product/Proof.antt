@@ -1,0 +1,28 @@
+-- The call `product` meets its contract.
+use borrow.Author.Needs.{needs}
+use Rattle.refusal.proofs.Written.{output-new, output-old}
+use Rattle.arithmetic.proofs.call.product.Statement.{statement}
+use Rattle.arithmetic.proofs.call.product.Tie as tie
+
+number-requires : tie.Need-number-requires
+number-requires c κs = search needs
+
+write-product-requires : tie.Need-write-product-requires
+write-product-requires c κs = cc
+
+same-length : tie.Need-same-length
+same-length c = search needs
+
+returns : tie.Need-returns
+returns c = (search needs, search output-new)
+
+same-length-2 : tie.Need-same-length-2
+same-length-2 c = search needs
+
+returns-2 : tie.Need-returns-2
+returns-2 c = (search needs, search output-old)
+
+pub product-spec : {M : Type 1} → statement M
+product-spec =
+    tie.close
+    (tie.spec number-requires write-product-requires same-length returns same-length-2 returns-2)

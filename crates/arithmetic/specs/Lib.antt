@@ -1,0 +1,2 @@
+-- What the calls on residues answer.
+pub mod Calls

@@ -1,0 +1,47 @@
+-- The words of a list copied one after another, into an array and out of it.
+--   entry xs k   word k of xs
+use mathlib.Core.Path.{_≡_, refl, sym, ap, _∙_}
+use mathlib.Core.List.{List, [], _∷_, _++_, append-nil}
+use Prim.Native.Nat.{ℕ, zero, suc, _+_, _^_, _≤_, _<_}
+use native.Mathlib.Nat as Nat
+use native.Mathlib.Omega.{arith}
+use lib.ListN.{length, getD, take, set, replicate}
+use lib.Seq.{take-length, drop-length}
+use mir.Syntax.{w16}
+use mir.Val.{Fits}
+use Rattle.array.specs.Array.{padded, Holds}
+use Rattle.array.proofs.Painted.{painted, table, painted-is, painted-next, painted-length}
+use Rattle.array.proofs.Padded.{array-fits, painted-array, padded-zeros, take-zeros, holds-word}
+
+unfoldable pub entry : List ℕ → ℕ → ℕ
+entry xs k = getD xs k 0
+
+table-entries : (n : ℕ) (xs : List ℕ) → n ≤ length xs → table (entry xs) n ≡ take n xs
+unfolding table entry
+table-entries zero xs h = refl
+table-entries (suc n) [] h = absurd (omega arith)
+table-entries (suc n) (a ∷ xs) h = ap (_∷_ a) (table-entries n xs (omega arith))
+
+pub copy-turn : (j : ℕ) (xs w w′ : List ℕ) → w′ ≡ painted w (entry xs) j → set w′ j (getD xs j 0) ≡ painted w (entry xs) (j + 1)
+unfolding entry
+copy-turn j xs w w′ e = ap (λ l. set l j (getD xs j 0)) e ∙ painted-next w (entry xs) j
+
+pub load-done : (j : ℕ) (xs w : List ℕ) → length xs ≤ 16 → j ≤ length xs → length xs ≤ j → w ≡ painted (replicate 16 0) (entry xs) j → w ≡ padded xs
+load-done j xs w b l m e =
+    let same : j ≡ length xs = omega arith in
+    e ∙ ap (painted (replicate 16 0) (entry xs)) same
+    ∙ painted-array (length xs) (entry xs) (replicate 16 0) b (padded-zeros (length xs) b ∙ ap padded (sym (take-zeros (length xs) b)))
+    ∙ ap padded (table-entries (length xs) xs (Nat.le-refl (length xs)) ∙ take-length xs)
+
+pub store-done : (j : ℕ) (w xs xs′ : List ℕ) → length xs ≤ 16 → Holds (2 ^ 16) (length xs) w → j ≤ length xs → length xs′ ≤ j → xs′ ≡ painted xs (entry w) j
+    → xs′ ≡ take (length xs) w
+store-done j w xs xs′ b h l m e =
+    let same : j ≡ length xs = omega (arith, ap length e ∙ painted-length xs (entry w) j) in
+    e ∙ ap (painted xs (entry w)) same
+    ∙ painted-is xs (entry w) (length xs) (Nat.le-refl (length xs))
+    ∙ ap (λ l. table (entry w) (length xs) ++ l) (drop-length xs)
+    ∙ append-nil (table (entry w) (length xs))
+    ∙ table-entries (length xs) w (array-fits (length xs) w b (h .zeros))
+
+pub store-fits : (j : ℕ) (w xs xs′ : List ℕ) → Holds (2 ^ 16) (length xs) w → length xs′ ≡ length xs → j < length xs′ → Fits w16 (getD w j 0)
+store-fits j w xs xs′ h e l = record { fits = holds-word h j (omega arith) }

@@ -1,0 +1,21 @@
+-- `yokebean_session_propose` meets its contract.
+use borrow.Author.Needs.{needs}
+use Rattle.capi.proofs.Values.{propose-answers}
+use Rattle.capi.proofs.sessions.yokebean_session_propose.Statement.{statement}
+use Rattle.capi.proofs.sessions.yokebean_session_propose.Tie as tie
+
+session-of-requires : tie.Need-session-of-requires
+session-of-requires c κs = search needs
+
+propose-requires : tie.Need-propose-requires
+propose-requires c κs = search needs
+
+step-of-requires : tie.Need-step-of-requires
+step-of-requires c κs = search needs
+
+returns : tie.Need-returns
+returns c = search propose-answers
+
+pub yokebean-session-propose-spec : {M : Type 1} → statement M
+yokebean-session-propose-spec =
+    tie.close (tie.spec session-of-requires propose-requires step-of-requires returns)

@@ -1,0 +1,2 @@
+-- frobenius: PLACEHOLDER, say here what this crate has.
+pub mod Kernel

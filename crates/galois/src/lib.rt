@@ -1,0 +1,1 @@
+// galois: PLACEHOLDER, say here what this crate has.

@@ -1,0 +1,38 @@
+-- `powers` meets its contract: column 0 is 1, and there is no other, or the further ones follow.
+use borrow.Author.Needs.{needs}
+use Rattle.matrix.proofs.PowersOf.{powers-one, powers-alone}
+use Rattle.matrix.proofs.powers.powers.Statement.{statement}
+use Rattle.matrix.proofs.powers.powers.Tie as tie
+
+array-write-one : tie.Need-array-write-one
+array-write-one c = search needs
+
+place-requires : tie.Need-place-requires
+place-requires c κs = search needs
+
+multiplier-requires : tie.Need-multiplier-requires
+multiplier-requires c κs = search needs
+
+reciprocal-requires : tie.Need-reciprocal-requires
+reciprocal-requires c κs = search needs
+
+higher-powers-requires : tie.Need-higher-powers-requires
+higher-powers-requires c κs = (search needs, (search needs, search powers-one))
+
+returns : tie.Need-returns
+returns c = search needs
+
+returns-2 : tie.Need-returns-2
+returns-2 c = search powers-alone
+
+pub powers-spec : {M : Type 1} → statement M
+powers-spec =
+    tie.close
+    (tie.spec
+    array-write-one
+    place-requires
+    multiplier-requires
+    reciprocal-requires
+    higher-powers-requires
+    returns
+    returns-2)

@@ -1,0 +1,2 @@
+-- matrix: PLACEHOLDER, say here what this crate has.
+pub mod Matrix

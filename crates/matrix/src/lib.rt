@@ -1,0 +1,3 @@
+// matrix: PLACEHOLDER, say here what this crate has.
+//   powers    the powers of a residue as a matrix, worked out once for many substitutions
+pub mod powers;

@@ -1,0 +1,102 @@
+// The matrix of u ↦ u(S): its columns are the powers of S, so that u(S) is its product with u. One matrix serves any number of substitutions.
+// It is a flat array of 16 rows of 16 words, which the caller lends.
+ghost use mathlib.Core.Path.{_≡_};
+ghost use Prim.Native.Nat.{_%_, _^_, _≤_, _<_};
+ghost use lib.ListN.{length, take};
+ghost use Rattle.array.specs.Array.{padded, Holds, Square, rowProduct};
+ghost use Rattle.residue.specs.Delayed.{Reduction};
+ghost use Rattle.matrix.specs.Matrix.{Powers, Placed, matrixProduct, column as columnOf};
+use residue::delayed::multiplier;
+use residue::delayed::reciprocal;
+use residue::delayed::times;
+use residue::ring::multiply;
+
+// Writes the first n words of u into column j.
+fn place(n: usize, j: usize, u: &[u64; 16], m: &mut [u64; 256])
+    requires { ⌜ (n ≤ 16) × (j < 16) × (length (now u) ≡ 16) × (length (now m) ≡ 256) ⌝ }
+    ensures { λ _. ⌜ Placed n j (now (u .entry)) (now (m .entry)) (now (m .exit)) ⌝ }
+{
+    let mut i = 0;
+    while i < n {
+        m[16 * i + j] = u[i];
+        i += 1;
+    }
+}
+
+// The powers S, …, S^(n−1), by n − 2 products, into a matrix whose column 0 is 1.
+fn higher_powers(p: u64, k: u64, r: u64, n: usize, t: &[u64; 16], s: &[u64; 16], m: &mut [u64; 256])
+    requires { ⌜ Reduction p k r × (2 ≤ n) × (n ≤ 16) ⌝ }
+    requires { ⌜ Holds p n (now t) × Holds p n (now s) ⌝ }
+    requires { ⌜ Powers p 1 (take n (now t)) (take n (now s)) (now m) ⌝ }
+    ensures { λ _. ⌜ Powers p n (take n (now (t .entry))) (take n (now (s .entry))) (now (m .exit)) ⌝ }
+{
+    let mut u = *s;
+    place(n, 1, &u, m);
+    let mut j = 2;
+    while j < n {
+        u = multiply(p, k, r, n, t, s, &u);
+        place(n, j, &u, m);
+        j += 1;
+    }
+}
+
+// The powers 1, S, …, S^(n−1) modulo T.
+pub fn powers(p: u64, n: usize, t: &[u64; 16], s: &[u64; 16], m: &mut [u64; 256])
+    requires { ⌜ (2 ≤ p) × (p ≤ 2 ^ 20) × (1 ≤ n) × (n ≤ 16) ⌝ }
+    requires { ⌜ Holds p n (now t) × Holds p n (now s) ⌝ }
+    requires { ⌜ length (now m) ≡ 256 ⌝ }
+    ensures { λ _. ⌜ Powers p n (take n (now (t .entry))) (take n (now (s .entry))) (now (m .exit)) ⌝ }
+{
+    let mut one = [0; 16];
+    one[0] = 1;
+    place(n, 0, &one, m);
+    if n > 1 {
+        let k = multiplier(p);
+        let r = reciprocal(p, k);
+        higher_powers(p, k, r, n, t, s, m);
+    }
+}
+
+// Column j of a matrix.
+pub fn column(n: usize, m: &[u64; 256], j: usize) -> [u64; 16]
+    requires { ⌜ (n ≤ 16) × (j < 16) × (length (now m) ≡ 256) ⌝ }
+    ensures { λ r. ⌜ r ≡ padded (columnOf n (now (m .entry)) j) ⌝ }
+{
+    let mut w = [0; 16];
+    let mut i = 0;
+    while i < n {
+        w[i] = m[16 * i + j];
+        i += 1;
+    }
+    w
+}
+
+// The product of row i with u, modulo p: sixteen products fit a word, so that one reduction is enough.
+fn dot(p: u64, n: usize, m: &[u64; 256], u: &[u64; 16], i: usize) -> u64
+    requires { ⌜ (p ≤ 2 ^ 20) × (n ≤ 16) × (i < n) ⌝ }
+    requires { ⌜ Square p n (now m) × Holds p n (now u) ⌝ }
+    ensures { λ r. ⌜ r ≡ rowProduct (now (m .entry)) i 0 (take n (now (u .entry))) % p ⌝ }
+{
+    let mut sum = 0;
+    let mut j = 0;
+    while j < n {
+        sum += times(m[16 * i + j], u[j]);
+        j += 1;
+    }
+    sum % p
+}
+
+// The product of a matrix with u, modulo p.
+pub fn apply(p: u64, n: usize, m: &[u64; 256], u: &[u64; 16]) -> [u64; 16]
+    requires { ⌜ (p ≤ 2 ^ 20) × (n ≤ 16) ⌝ }
+    requires { ⌜ Square p n (now m) × Holds p n (now u) ⌝ }
+    ensures { λ r. ⌜ r ≡ padded (matrixProduct p n (now (m .entry)) (take n (now (u .entry)))) ⌝ }
+{
+    let mut w = [0; 16];
+    let mut i = 0;
+    while i < n {
+        w[i] = dot(p, n, m, u, i);
+        i += 1;
+    }
+    w
+}

@@ -1,0 +1,83 @@
+-- What it means that none of the refusals 1 to 4 applies (document 01, "Caused by what was sent").
+--   refuse-none                the number is 0: the first condition does not apply, and what comes after it is 0
+--   prime-given, given-prime   1 does not apply exactly to the primes up to 65,535
+--   degree-given, given-degree 2 does not apply exactly to 1 to 16
+--   Sent p n xss yss           1 to 4 do not apply to a call with the lists xss that reads yss
+--   sent-given, given-sent     that is so exactly where what comes after them decides
+--   sent-stays                 a number of 1 to 4 stays, whatever comes after them
+use mathlib.Core.Path.{_≡_, refl, ap, ap₂, _∙_}
+use mathlib.Core.Bool.{Bool, true, false, not, _&&_, and-eq-true-iff}
+use mathlib.Core.List.{List}
+use Prim.Native.Nat.{ℕ, suc, _≤_}
+use native.Mathlib.Omega.{arith}
+use lib.Dec.{leb}
+use borrow.Author.Tests.{leb-true, le-leb, not-false}
+use Rattle.algebra.specs.Prime.{Prime}
+use Rattle.modular.specs.Prime.{isPrime}
+use Rattle.refusal.specs.Refusal.{refuse, refuseSent, badPrime, isDegree, badDegree, badLength, badWord}
+use Rattle.modular.proofs.IsPrime.{prime-of-test, test-of-prime}
+
+pub refuse-none : (k : ℕ) (b : Bool) (rest : ℕ) → refuse (suc k) b rest ≡ 0 → (b ≡ false) × (rest ≡ 0)
+refuse-none k true rest h = absurd (omega arith)
+refuse-none k false rest h = (refl, h)
+
+pub prime-given : (p : ℕ) → badPrime p ≡ false → Prime p × (p ≤ 65535)
+unfolding badPrime
+prime-given p h = prime-of-test p (not-false (isPrime p) h)
+
+pub prime-bounds : (p : ℕ) → badPrime p ≡ false → (2 ≤ p) × (p ≤ 65535)
+prime-bounds p h = let given = prime-given p h in (given .0 .0, given .1)
+
+pub given-prime : (p : ℕ) → Prime p → p ≤ 65535 → badPrime p ≡ false
+unfolding badPrime
+given-prime p h l = ap not (test-of-prime p h l)
+
+pub degree-given : (n : ℕ) → badDegree n ≡ false → (1 ≤ n) × (n ≤ 16)
+unfolding badDegree isDegree
+degree-given n h =
+    let ends = and-eq-true-iff (leb 1 n) (leb n 16) .0 (not-false (leb 1 n && leb n 16) h) in
+    (leb-true 1 n (ends .0), leb-true n 16 (ends .1))
+
+pub given-degree : (n : ℕ) → 1 ≤ n → n ≤ 16 → badDegree n ≡ false
+unfolding badDegree isDegree
+given-degree n l h = ap₂ (λ a b. not (a && b)) (le-leb 1 n l) (le-leb n 16 h)
+
+pub record Sent (p n : ℕ) (xss yss : List (List ℕ)) : Type 0 where
+  pub prime : Prime p
+  pub small : p ≤ 65535
+  pub low : 1 ≤ n
+  pub high : n ≤ 16
+  pub lengths : badLength n xss ≡ false
+  pub words : badWord p yss ≡ false
+
+module _ (p n : ℕ) (xss yss : List (List ℕ)) (rest : ℕ) where
+  pub sent-given : refuseSent p n xss yss rest ≡ 0 → Sent p n xss yss × (rest ≡ 0)
+  sent-given h =
+      let (prime, h2) = refuse-none 0 (badPrime p) _ h in
+      let (degree, h3) = refuse-none 1 (badDegree n) _ h2 in
+      let (lengths, h4) = refuse-none 2 (badLength n xss) _ h3 in
+      let (words, end) = refuse-none 3 (badWord p yss) rest h4 in (
+        record {
+          prime = prime-given p prime .0;
+          small = prime-given p prime .1;
+          low = degree-given n degree .0;
+          high = degree-given n degree .1;
+          lengths = lengths;
+          words = words;
+        },
+        end,
+      )
+
+  pub given-sent : Sent p n xss yss → refuseSent p n xss yss rest ≡ rest
+  given-sent h = rw (given-prime p (h .prime) (h .small), given-degree n (h .low) (h .high), h .lengths, h .words)
+
+  pub sent-stays : (number : ℕ) → number ≡ refuseSent p n xss yss 0 → (number ≡ 0 → ⊥) → number ≡ refuseSent p n xss yss rest
+  sent-stays number e h = e ∙ go (badPrime p) (badDegree n) (badLength n xss) (badWord p yss) (λ z. h (e ∙ z))
+    where
+      go : (a b c d : Bool) → (refuse 1 a (refuse 2 b (refuse 3 c (refuse 4 d 0))) ≡ 0 → ⊥)
+          → refuse 1 a (refuse 2 b (refuse 3 c (refuse 4 d 0))) ≡ refuse 1 a (refuse 2 b (refuse 3 c (refuse 4 d rest)))
+      go true b c d f = refl
+      go false true c d f = refl
+      go false false true d f = refl
+      go false false false true f = refl
+      go false false false false f = absurd (f refl)

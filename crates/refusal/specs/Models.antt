@@ -1,0 +1,13 @@
+-- Two models of one size (document 01, "Models and residues"): what 1 to 4 do not refuse.
+--   Models p n t1 t2   p is a prime up to 65,535, n is 1 to 16, and t1 and t2 are n words below p each
+use mathlib.Core.List.{List}
+use Prim.Native.Nat.{ℕ, _≤_}
+use Rattle.algebra.specs.Prime.{Prime}
+use Rattle.array.specs.Words.{Words}
+
+pub record Models (p n : ℕ) (t1 t2 : List ℕ) : Type 0 where
+  pub prime : Prime p
+  pub small : p ≤ 65535
+  pub degree : (1 ≤ n) × (n ≤ 16)
+  pub modulus1 : Words p n t1
+  pub modulus2 : Words p n t2

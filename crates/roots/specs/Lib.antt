@@ -1,0 +1,2 @@
+-- roots: PLACEHOLDER, say here what this crate has.
+pub mod Roots
