@@ -15,7 +15,7 @@ use Rattle.quotient.specs.Residue.{sum, constant}
 use Rattle.quotient.proofs.Operations.{sum-words, constant-zero}
 use Rattle.array.proofs.Words.{words-length}
 use Rattle.array.specs.Array.{Holds}
-use Rattle.matrix.proofs.PowerMatrix.{sum-word}
+use Rattle.quotient.proofs.SumOfPowers.{sum-word}
 
 pub record Left (n : ℕ) (xs ys : List ℕ) (i : ℕ) : Type 0 where
   pub first-length : length xs ≡ n
