@@ -1,5 +1,5 @@
 //! Isomorphisms of finite fields: check a pair, find one, convert tables through it. Each function passes its slices on to the proved call of
-//! the same name in include/yokebean.h; none of them panics, and a refused call leaves every slice as it was.
+//! the same name in include/yokebean.h, which `rt staticlib capi` builds; none of them panics, and a refused call leaves every slice as it was.
 //!
 //! A model is a prime p up to 65,535, a degree n from 1 to 16 and a monic modulus of degree n; its n lower words are passed, constant first.
 //! A residue is n words below p, in the same order.
