@@ -20,14 +20,12 @@ pub record Promises : Type 0 where
   pub every-run : EveryRun
   pub refusals-change-nothing : RefusalsChangeNothing
   pub counts-as-held : CountsAsHeld
-
   -- Demand 2. Accepted (pair/specs/Theorem.antt): 0 exactly when 1 to 4 do not apply and the four congruences hold. Found: demand 3 below.
   -- Converted (session/specs/Theorem.antt): the k-th group of the output is the image of the k-th group of the input, for every k; and a table
   -- comes back
   pub accepted : CheckerTheorem
   pub group-by-group : GroupByGroup
   pub back-again : BackAgain
-
   -- the words in which the congruences are said (quotient/specs/Theorem.antt, DivisorTest.antt): residues modulo T, the product, substitution, divisors
   pub residues-are-a-ring : ResiduesAreARing
   pub modulus-vanishes : ModulusVanishes
@@ -36,23 +34,18 @@ pub record Promises : Type 0 where
   pub substitution-preserves : SubstitutionPreserves
   pub residues-are-listed : ResiduesAreListed
   pub divisor-test-is-exact : DivisorTestIsExact
-
   -- Demand 3, whole (finder/specs/Theorem.antt)
   pub demand-3 : Demand3Theorem
-
   -- what makes it so (quotient/specs/Theorem.antt): fields of residues
   pub nonzero-is-unit : NonZeroIsUnit
   pub power-of-unit : PowerOfUnit
   pub irreducible-divisor : IrreducibleDivisor
   pub frobenius-is-linear : FrobeniusIsLinear
-
   -- Cards (card/specs/Theorem.antt)
   pub written-reads-back : WrittenReadsBack
   pub read-is-written : ReadIsWritten
   pub longest-card : LongestCard
-
   -- The program's text (answer/specs/Theorem.antt)
   pub long-input : LongInput
-
   -- Small fields by hand, A to I (specs/Examples.antt)
   pub examples : Examples
