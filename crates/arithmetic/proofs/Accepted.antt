@@ -11,10 +11,11 @@ use Rattle.refusal.proofs.Refusal.{sent-given}
 use Rattle.array.specs.Words.{Words, allBelow}
 use Rattle.refusal.proofs.Lists.{words-of}
 use Rattle.arithmetic.specs.Calls.{residueNumber}
+use Rattle.modular.specs.Prime.{largestPrime}
 
 pub record Accepted (p n : ℕ) (xss : List (List ℕ)) (out : List ℕ) : Type 0 where
   pub big : 2 ≤ p
-  pub small : p ≤ 65535
+  pub small : p ≤ largestPrime
   pub low : 1 ≤ n
   pub high : n ≤ 16
   pub words : (xs : List ℕ) → Member xs xss → Words p n xs

@@ -6,7 +6,7 @@ use Prim.Native.Nat.{ℕ, _^_, _≤_}
 use native.Mathlib.Nat as Nat
 use native.Mathlib.Omega.{arith}
 use lib.ListN.{length, take}
-use Rattle.array.specs.Words.{Words}
+use Rattle.array.specs.Words.{Words, wordBound}
 use Rattle.quotient.specs.Residue.{product, power, substitute}
 use Rattle.quotient.proofs.Operations.{product-words, power-words, substitute-words}
 use Rattle.array.proofs.Words.{words-length}
@@ -44,8 +44,8 @@ module _ (p n : ℕ) (t : List ℕ) (others : List (List ℕ)) (out : List ℕ) 
 
   -- a result s of n words below p, on its way from the array r into out
   module _ (s r : List ℕ) (f : r ≡ padded s) (w : Words p n s) where
-    stores : Holds (2 ^ 16) (length out) r
-    stores = subst (λ k. Holds (2 ^ 16) k r) (sym (given .size)) (holds-is f (words-up (omega (arith, given .small)) w))
+    stores : Holds wordBound (length out) r
+    stores = subst (λ k. Holds wordBound k r) (sym (given .size)) (holds-is f (words-up (omega (arith, given .small)) w))
 
     stored : (out′ : List ℕ) → out′ ≡ take (length out) r → out′ ≡ s
     stored out′ g = g ∙ ap (λ k. take k r) (given .size) ∙ front-is f w
@@ -74,7 +74,7 @@ module _ (p n : ℕ) (t u : List ℕ) (out : List ℕ) (e : residueNumber p n (t
     power-is-words : Words p n (power p t u x)
     power-is-words = power-words (given p n t (u ∷ []) out e .big) wt wu x
 
-    pub power-stores : Holds (2 ^ 16) (length out) r
+    pub power-stores : Holds wordBound (length out) r
     power-stores = stores p n t (u ∷ []) out e (power p t u x) r power-result power-is-words
 
     pub power-stored : (out′ : List ℕ) → out′ ≡ take (length out) r → out′ ≡ power p t u x
@@ -105,21 +105,21 @@ module _ (p n : ℕ) (t u v : List ℕ) (out : List ℕ) (e : residueNumber p n 
       result : r ≡ padded (F t u v)
       result = k ∙ ap padded (ap (λ l. F l (take n b) (take n c)) (front-is f first) ∙ ap₂ (F t) (front-is g second) (front-is h third-words))
 
-      result-stores : Holds (2 ^ 16) (length out) r
+      result-stores : Holds wordBound (length out) r
       result-stores = stores p n t (u ∷ v ∷ []) out e (F t u v) r result w
 
       result-stored : (out′ : List ℕ) → out′ ≡ take (length out) r → out′ ≡ F t u v
       result-stored = stored p n t (u ∷ v ∷ []) out e (F t u v) r result w
 
     module _ (k : r ≡ padded (product p (take n a) (take n b) (take n c))) where
-      pub product-stores : Holds (2 ^ 16) (length out) r
+      pub product-stores : Holds wordBound (length out) r
       product-stores = result-stores (product p) (product-words big first u third-words) k
 
       pub product-stored : (out′ : List ℕ) → out′ ≡ take (length out) r → out′ ≡ product p t u v
       product-stored = result-stored (product p) (product-words big first u third-words) k
 
     module _ (k : r ≡ padded (substitute p (take n a) (take n b) (take n c))) where
-      pub substitute-stores : Holds (2 ^ 16) (length out) r
+      pub substitute-stores : Holds wordBound (length out) r
       substitute-stores = result-stores (substitute p) (substitute-words big first second third-words) k
 
       pub substitute-stored : (out′ : List ℕ) → out′ ≡ take (length out) r → out′ ≡ substitute p t u v

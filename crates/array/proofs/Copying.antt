@@ -12,6 +12,7 @@ use mir.Val.{Fits}
 use Rattle.array.specs.Array.{padded, Holds}
 use Rattle.array.proofs.Painted.{painted, table, painted-is, painted-next, painted-length}
 use Rattle.array.proofs.Padded.{array-fits, painted-array, padded-zeros, take-zeros, holds-word}
+use Rattle.array.specs.Words.{wordBound}
 
 unfoldable pub entry : List ℕ → ℕ → ℕ
 entry xs k = getD xs k 0
@@ -33,7 +34,7 @@ load-done j xs w b l m e =
     ∙ painted-array (length xs) (entry xs) (replicate 16 0) b (padded-zeros (length xs) b ∙ ap padded (sym (take-zeros (length xs) b)))
     ∙ ap padded (table-entries (length xs) xs (Nat.le-refl (length xs)) ∙ take-length xs)
 
-pub store-done : (j : ℕ) (w xs xs′ : List ℕ) → length xs ≤ 16 → Holds (2 ^ 16) (length xs) w → j ≤ length xs → length xs′ ≤ j → xs′ ≡ painted xs (entry w) j
+pub store-done : (j : ℕ) (w xs xs′ : List ℕ) → length xs ≤ 16 → Holds wordBound (length xs) w → j ≤ length xs → length xs′ ≤ j → xs′ ≡ painted xs (entry w) j
     → xs′ ≡ take (length xs) w
 store-done j w xs xs′ b h l m e =
     let same : j ≡ length xs = omega (arith, ap length e ∙ painted-length xs (entry w) j) in
@@ -43,5 +44,5 @@ store-done j w xs xs′ b h l m e =
     ∙ append-nil (table (entry w) (length xs))
     ∙ table-entries (length xs) w (array-fits (length xs) w b (h .zeros))
 
-pub store-fits : (j : ℕ) (w xs xs′ : List ℕ) → Holds (2 ^ 16) (length xs) w → length xs′ ≡ length xs → j < length xs′ → Fits w16 (getD w j 0)
+pub store-fits : (j : ℕ) (w xs xs′ : List ℕ) → Holds wordBound (length xs) w → length xs′ ≡ length xs → j < length xs′ → Fits w16 (getD w j 0)
 store-fits j w xs xs′ h e l = record { fits = holds-word h j (omega arith) }

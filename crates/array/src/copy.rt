@@ -3,6 +3,7 @@ ghost use mathlib.Core.Path.{_≡_};
 ghost use Prim.Native.Nat.{_≤_, _^_};
 ghost use lib.ListN.{length, take};
 ghost use Rattle.array.specs.Array.{padded, Holds};
+ghost use Rattle.array.specs.Words.{wordBound};
 use crate::Word;
 
 // The words of xs, and zeros after them.
@@ -21,7 +22,7 @@ pub fn load(xs: &[Word]) -> [u64; 16]
 
 // The first words of w, as many as xs has, into xs.
 pub fn store(w: &[u64; 16], xs: &mut [Word])
-    requires { ⌜ (length (now xs) ≤ 16) × Holds (2 ^ 16) (length (now xs)) (now w) ⌝ }
+    requires { ⌜ (length (now xs) ≤ 16) × Holds wordBound (length (now xs)) (now w) ⌝ }
     ensures { λ _. ⌜ now (xs .exit) ≡ take (length (now (xs .entry))) (now (w .entry)) ⌝ }
 {
     let mut j = 0;

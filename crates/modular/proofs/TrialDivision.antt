@@ -15,7 +15,7 @@ use borrow.Author.Tests.{eq-eqb, ne-eqb}
 use Rattle.algebra.specs.Lists.{Member, all, range}
 use Rattle.algebra.specs.Prime.{Prime}
 use Rattle.algebra.proofs.Search.{member-of-all, all-of-members, range-member}
-use Rattle.modular.specs.Prime.{isPrime}
+use Rattle.modular.specs.Prime.{largestPrime, isPrime}
 use Rattle.modular.proofs.IsPrime.{indivisible, indivisible-of, of-indivisible, prime-of-test, test-of-prime, not-prime}
 use Rattle.algebra.proofs.Scan.{getD-member, scan-next, scan-holds}
 
@@ -36,7 +36,7 @@ cofactor-large (suc zero) d p h pos l = absurd (omega arith)
 cofactor-large (suc (suc e)) d p h pos l = omega arith
 
 -- d or p / d is below 256
-small-divisor : (p d : ℕ) → p ≤ 65535 → 2 ≤ d → d < p → p % d ≡ 0 → (f : ℕ) × (2 ≤ f) × (f < 256) × (p % f ≡ 0)
+small-divisor : (p d : ℕ) → p ≤ largestPrime → 2 ≤ d → d < p → p % d ≡ 0 → (f : ℕ) × (2 ≤ f) × (f < 256) × (p % f ≡ 0)
 small-divisor p d h low high e = go (decLt d 256)
   where
     product : p / d * d ≡ p
@@ -54,7 +54,7 @@ small-divisor p d h low high e = go (decLt d 256)
 pub too-small : (p : ℕ) → p < 2 → false ≡ isPrime p
 too-small p h = not-prime p (λ t. omega (arith, prime-of-test p t .0 .0))
 
-pub too-large : (p : ℕ) → 65535 < p → false ≡ isPrime p
+pub too-large : (p : ℕ) → largestPrime < p → false ≡ isPrime p
 too-large p h = not-prime p (λ t. omega (arith, prime-of-test p t .1))
 
 module _ (primes : List ℕ) (table : Table primes) where
@@ -71,7 +71,7 @@ module _ (primes : List ℕ) (table : Table primes) where
       all-of-members (indivisible d) primes
       (λ q m. indivisible-of d q (λ k. of-indivisible p q (member-of-all (indivisible p) primes all-p q m) (divides-trans p d q h k)))
 
-  prime-of-undivided : (p : ℕ) → 2 ≤ p → p ≤ 65535 → all (indivisible p) primes ≡ true → Prime p
+  prime-of-undivided : (p : ℕ) → 2 ≤ p → p ≤ largestPrime → all (indivisible p) primes ≡ true → Prime p
   prime-of-undivided p low high h = (
     low,
     λ d l g e.
@@ -105,6 +105,6 @@ module _ (primes : List ℕ) (table : Table primes) where
           → all (indivisible p) primes ≡ all (indivisible p) (drop (i + 1) primes)
       undivided h e n = scan-next (indivisible p) primes i e (omega (arith, table .count)) (indivisible-of p (getD primes i 0) n)
 
-      pub all-undivided : 54 ≤ i → 2 ≤ p → p ≤ 65535 → all (indivisible p) primes ≡ all (indivisible p) (drop i primes) → true ≡ isPrime p
+      pub all-undivided : 54 ≤ i → 2 ≤ p → p ≤ largestPrime → all (indivisible p) primes ≡ all (indivisible p) (drop i primes) → true ≡ isPrime p
       all-undivided h low high e =
           sym (test-of-prime p (prime-of-undivided p low high (sym (scan-holds (indivisible p) primes i e (omega (arith, table .count))))) high)

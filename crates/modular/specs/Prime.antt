@@ -1,9 +1,13 @@
 -- The primes of document 01: "p is a prime from 2 to 65,535".
---   isPrime p   2 ≤ p ≤ 65,535, and no d with 2 ≤ d < p divides p
+--   largestPrime   no prime of a call is larger: 65,535
+--   isPrime p      2 ≤ p ≤ 65,535, and no d with 2 ≤ d < p divides p
 use mathlib.Core.Bool.{Bool, _&&_, not}
 use Prim.Native.Nat.{ℕ, _-_, _%_}
 use lib.Dec.{leb, eqb}
 use Rattle.algebra.specs.Lists.{all, range}
 
+abbrev pub largestPrime : ℕ
+largestPrime = 65535
+
 unfoldable pub isPrime : ℕ → Bool
-isPrime p = leb 2 p && leb p 65535 && all (λ d. not (eqb (p % d) 0)) (range 2 (p - 2))
+isPrime p = leb 2 p && leb p largestPrime && all (λ d. not (eqb (p % d) 0)) (range 2 (p - 2))

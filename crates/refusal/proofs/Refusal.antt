@@ -14,43 +14,43 @@ use lib.Dec.{leb}
 use lib.ListN.{length}
 use borrow.Author.Tests.{leb-true, le-leb, not-false}
 use Rattle.algebra.specs.Prime.{Prime}
-use Rattle.modular.specs.Prime.{isPrime}
+use Rattle.modular.specs.Prime.{largestPrime, isPrime}
 use Rattle.algebra.specs.Lists.{All}
 use Rattle.array.specs.Words.{allBelow}
 use Rattle.refusal.proofs.Lists.{lengths-given, given-lengths, below-given, given-below}
-use Rattle.refusal.specs.Refusal.{refuse, refuseSent, badPrime, isDegree, badDegree, badLength, badWord}
+use Rattle.refusal.specs.Refusal.{refuse, refuseSent, badPrime, largestDegree, isDegree, badDegree, badLength, badWord}
 use Rattle.modular.proofs.IsPrime.{prime-of-test, test-of-prime}
 
 pub refuse-none : (k : ℕ) (b : Bool) (rest : ℕ) → refuse (suc k) b rest ≡ 0 → (b ≡ false) × (rest ≡ 0)
 refuse-none k true rest h = absurd (omega arith)
 refuse-none k false rest h = (refl, h)
 
-pub prime-given : (p : ℕ) → badPrime p ≡ false → Prime p × (p ≤ 65535)
+pub prime-given : (p : ℕ) → badPrime p ≡ false → Prime p × (p ≤ largestPrime)
 unfolding badPrime
 prime-given p h = prime-of-test p (not-false (isPrime p) h)
 
-pub prime-bounds : (p : ℕ) → badPrime p ≡ false → (2 ≤ p) × (p ≤ 65535)
+pub prime-bounds : (p : ℕ) → badPrime p ≡ false → (2 ≤ p) × (p ≤ largestPrime)
 prime-bounds p h = let given = prime-given p h in (given .0 .0, given .1)
 
-pub given-prime : (p : ℕ) → Prime p → p ≤ 65535 → badPrime p ≡ false
+pub given-prime : (p : ℕ) → Prime p → p ≤ largestPrime → badPrime p ≡ false
 unfolding badPrime
 given-prime p h l = ap not (test-of-prime p h l)
 
-pub degree-given : (n : ℕ) → badDegree n ≡ false → (1 ≤ n) × (n ≤ 16)
+pub degree-given : (n : ℕ) → badDegree n ≡ false → (1 ≤ n) × (n ≤ largestDegree)
 unfolding badDegree isDegree
 degree-given n h =
-    let ends = and-eq-true-iff (leb 1 n) (leb n 16) .0 (not-false (leb 1 n && leb n 16) h) in
-    (leb-true 1 n (ends .0), leb-true n 16 (ends .1))
+    let ends = and-eq-true-iff (leb 1 n) (leb n largestDegree) .0 (not-false (leb 1 n && leb n largestDegree) h) in
+    (leb-true 1 n (ends .0), leb-true n largestDegree (ends .1))
 
-pub given-degree : (n : ℕ) → 1 ≤ n → n ≤ 16 → badDegree n ≡ false
+pub given-degree : (n : ℕ) → 1 ≤ n → n ≤ largestDegree → badDegree n ≡ false
 unfolding badDegree isDegree
-given-degree n l h = ap₂ (λ a b. not (a && b)) (le-leb 1 n l) (le-leb n 16 h)
+given-degree n l h = ap₂ (λ a b. not (a && b)) (le-leb 1 n l) (le-leb n largestDegree h)
 
 pub record Sent (p n : ℕ) (xss yss : List (List ℕ)) : Type 0 where
   pub prime : Prime p
-  pub small : p ≤ 65535
+  pub small : p ≤ largestPrime
   pub low : 1 ≤ n
-  pub high : n ≤ 16
+  pub high : n ≤ largestDegree
   pub lengths : All (λ xs. length xs ≡ n) xss
   pub below : All (λ ys. allBelow p ys ≡ true) yss
 

@@ -4,10 +4,12 @@ use mathlib.Core.List.{List}
 use Prim.Native.Nat.{ℕ, _≤_}
 use Rattle.algebra.specs.Prime.{Prime}
 use Rattle.array.specs.Words.{Words}
+use Rattle.modular.specs.Prime.{largestPrime}
+use Rattle.refusal.specs.Refusal.{largestDegree}
 
 pub record Models (p n : ℕ) (t1 t2 : List ℕ) : Type 0 where
   pub prime : Prime p
-  pub small : p ≤ 65535
-  pub degree : (1 ≤ n) × (n ≤ 16)
+  pub small : p ≤ largestPrime
+  pub degree : (1 ≤ n) × (n ≤ largestDegree)
   pub modulus1 : Words p n t1
   pub modulus2 : Words p n t2

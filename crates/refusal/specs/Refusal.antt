@@ -1,6 +1,7 @@
 -- The refusals that calls share (document 01, "Caused by what was sent"). "The first that applies is returned."
 --   refuse k b rest      k where the condition b applies, else what comes after it; the last is 0, a call that succeeds
 --   badPrime p           1: p is below 2, above 65,535 or not prime
+--   largestDegree        16
 --   isDegree n           n is 1 to 16
 --   badDegree n          2: n is not 1 to 16
 --   badLength n xss      3: a list of coefficients, read or written, has the wrong length
@@ -24,8 +25,11 @@ refuse k false rest = rest
 unfoldable pub badPrime : ℕ → Bool
 badPrime p = not (isPrime p)
 
+abbrev pub largestDegree : ℕ
+largestDegree = 16
+
 unfoldable pub isDegree : ℕ → Bool
-isDegree n = leb 1 n && leb n 16
+isDegree n = leb 1 n && leb n largestDegree
 
 unfoldable pub badDegree : ℕ → Bool
 badDegree n = not (isDegree n)

@@ -8,11 +8,14 @@ ghost use Rattle.refusal.specs.Refusal.{refuse, isDegree};
 use array::Word;
 use array::list::below;
 
+// The largest degree.
+pub const DEGREE: u32 = 16;
+
 // Whether n is 1 to 16.
 pub fn is_degree(n: u32) -> bool
     ensures { λ r. ⌜ r ≡ isDegree n ⌝ }
 {
-    n >= 1 && n <= 16
+    n >= 1 && n <= DEGREE
 }
 
 // Whether xs has n words, and the lists after it are as long as they should be.

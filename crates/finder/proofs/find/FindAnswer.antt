@@ -5,7 +5,7 @@ use Prim.Native.Nat.{ℕ, _^_, _≤_}
 use native.Mathlib.Omega.{arith}
 use lib.ListN.{length, take}
 use Rattle.refusal.specs.Refusal.{refuseSent, written}
-use Rattle.array.specs.Words.{Words}
+use Rattle.array.specs.Words.{Words, wordBound}
 use Rattle.refusal.proofs.Refusal.{Sent, sent-given, given-sent, sent-stays}
 use Rattle.refusal.proofs.TwoModels.{sent-models}
 use Rattle.array.proofs.Words.{words-length}
@@ -57,19 +57,19 @@ module _ (p n : ℕ) (t1 t2 : List ℕ) (m : Models p n t1 t2) where
           laws .words (laws .chosen divides (test-irreducible p (m .prime) (m .modulus1) first) (test-irreducible p (m .prime) (m .modulus2) second))
 
       module _ (out : List ℕ) (size : length out ≡ n) where
-        stores : (u w : List ℕ) → w ≡ padded u → Words p n u → Holds (2 ^ 16) (length out) w
-        stores u w e wu = subst (λ k. Holds (2 ^ 16) k w) (sym size) (holds-is e (words-up (omega (arith, m .small)) wu))
+        stores : (u w : List ℕ) → w ≡ padded u → Words p n u → Holds wordBound (length out) w
+        stores u w e wu = subst (λ k. Holds wordBound k w) (sym size) (holds-is e (words-up (omega (arith, m .small)) wu))
 
         stored : (u w : List ℕ) → w ≡ padded u → Words p n u → (out′ : List ℕ) → out′ ≡ take (length out) w → out′ ≡ written number u out
         stored u w e wu out′ h = output-new number number u out out′ refl zero-is (h ∙ ap (λ k. take k w) size ∙ front-is e wu)
 
-        pub forward-stores : Holds (2 ^ 16) (length out) f
+        pub forward-stores : Holds wordBound (length out) f
         forward-stores = stores (findS p n t1 t2) f (found .forward-is zero-is) (words .0)
 
         pub forward-stored : (out′ : List ℕ) → out′ ≡ take (length out) f → out′ ≡ written number (findS p n t1 t2) out
         forward-stored = stored (findS p n t1 t2) f (found .forward-is zero-is) (words .0)
 
-        pub backward-stores : Holds (2 ^ 16) (length out) g
+        pub backward-stores : Holds wordBound (length out) g
         backward-stores = stores (findR p n t1 t2) g (found .backward-is zero-is) (words .1)
 
         pub backward-stored : (out′ : List ℕ) → out′ ≡ take (length out) g → out′ ≡ written number (findR p n t1 t2) out

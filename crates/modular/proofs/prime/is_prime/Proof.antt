@@ -6,14 +6,14 @@ use Prim.Native.Nat.{_-_, _≤_}
 use lib.ListN.{drop}
 use borrow.Author.Needs.{needs}
 use Rattle.algebra.specs.Lists.{all, range}
-use Rattle.modular.specs.Prime.{isPrime}
+use Rattle.modular.specs.Prime.{largestPrime, isPrime}
 use Rattle.modular.proofs.IsPrime.{indivisible}
 use Rattle.modular.proofs.TrialDivision.{Table, too-small, too-large, entry-positive, divided, undivided, all-undivided}
 use Rattle.modular.proofs.prime.is_prime.Statement.{statement}
 use Rattle.modular.proofs.prime.is_prime.Tie as tie
 
 abbrev Inv-loop : tie.InvT-loop
-Inv-loop p primes i₀ i = Table primes × (2 ≤ p) × (p ≤ 65535) × (i ≤ 54) × (all (indivisible p) primes ≡ all (indivisible p) (drop i primes))
+Inv-loop p primes i₀ i = Table primes × (2 ≤ p) × (p ≤ largestPrime) × (i ≤ 54) × (all (indivisible p) primes ≡ all (indivisible p) (drop i primes))
 
 abbrev μ-loop : tie.MeasureT-loop
 μ-loop p primes i₀ i = 54 - i
