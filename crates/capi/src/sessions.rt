@@ -54,7 +54,11 @@ pub extern "C" fn yokebean_session_load(
 }
 
 #[no_mangle]
-pub extern "C" fn yokebean_session_propose(session: SessionValue, s: &[Word], r: &[Word]) -> StepValue
+pub extern "C" fn yokebean_session_propose(
+    session: SessionValue,
+    s: &[Word],
+    r: &[Word],
+) -> StepValue
     ensures { λ k. ⌜ k ≡ stepOf session (propose (sessionOf session) (now (s .entry)) (now (r .entry))) ⌝ }
 {
     step_of(session, session_of(session).propose(s, r))

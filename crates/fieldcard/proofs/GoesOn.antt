@@ -10,7 +10,7 @@ use Rattle.refusal.specs.Refusal.{refuse, badLength}
 use Rattle.refusal.proofs.Refusal.{given-sent}
 use Rattle.refusal.proofs.Lists.{given-words}
 use Rattle.array.proofs.Words.{words-length}
-use Rattle.finder.specs.Finder.{pairNumber, findNumber}
+use Rattle.finder.specs.Finder.{refuseFind, findNumber}
 use Rattle.pair.specs.Pair.{accepts, checkNumber}
 use Rattle.refusal.specs.Models.{Models}
 use Rattle.pair.specs.Theorem.{Given}
@@ -27,7 +27,7 @@ module _ (p n : ℕ) (t1 t2 : List ℕ) (m : Models p n t1 t2) (lentS lentR : Li
         eq-eqb (length lentR) n size-r,
       )
 
-  pub find-goes-on : findNumber p n t1 t2 lentS lentR ≡ pairNumber p n t1 t2
+  pub find-goes-on : findNumber p n t1 t2 lentS lentR ≡ refuseFind p n t1 t2
   unfolding findNumber
   find-goes-on =
       given-sent p n (t1 ∷ t2 ∷ lentS ∷ lentR ∷ []) (t1 ∷ t2 ∷ []) _

@@ -9,7 +9,7 @@ use Rattle.algebra.specs.Lists.{all}
 use Rattle.refusal.specs.Refusal.{refuse, badPrime, badLength, badWord}
 use Rattle.quotient.specs.DivisorTest.{hasDivisor}
 use Rattle.card.specs.Card.{badKind, cardLength, cardPrime, cardDegree, cardKind, cardWords, fillBits, readNumber}
-use Rattle.finder.specs.Finder.{pairNumber}
+use Rattle.finder.specs.Finder.{refuseFind}
 use Rattle.pair.specs.Pair.{accepts}
 
 small : (k : ℕ) (b : Bool) (rest : ℕ) → k < 100 → rest < 100 → refuse k b rest < 100
@@ -19,7 +19,7 @@ small k false rest h l = l
 pub check-small : (p : ℕ) (t1 t2 s r : List ℕ) → refuse 8 (not (accepts p t1 t2 s r)) 0 < 100
 check-small p t1 t2 s r = small 8 (not (accepts p t1 t2 s r)) 0 (omega arith) (omega arith)
 
-pub find-small : (p n : ℕ) (t1 t2 : List ℕ) → pairNumber p n t1 t2 < 100
+pub find-small : (p n : ℕ) (t1 t2 : List ℕ) → refuseFind p n t1 t2 < 100
 find-small p n t1 t2 =
     small 5 (not (eqb ((p - 1) % n) 0)) _ (omega arith)
     (small 6 (hasDivisor p t1) _ (omega arith) (small 7 (hasDivisor p t2) 0 (omega arith) (omega arith)))

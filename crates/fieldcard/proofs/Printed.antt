@@ -6,7 +6,7 @@ use Prim.Native.Nat.{ℕ, zero, suc, _*_, _<_}
 use lib.ListN.{take, replicate}
 use Rattle.refusal.specs.Refusal.{refuse}
 use Rattle.card.specs.Card.{card, cardLength, writeNumber}
-use Rattle.finder.specs.Finder.{pairNumber}
+use Rattle.finder.specs.Finder.{refuseFind}
 use Rattle.pair.specs.Pair.{accepts, checkNumber}
 use Rattle.refusal.specs.Models.{Models}
 use Rattle.pair.specs.Theorem.{Given}
@@ -44,7 +44,7 @@ module _ (p n number : ℕ) (words after : List ℕ) (found : Found p n words af
       instead (printed-refusal number line h ∙ ap (λ k. printed k line) (found .number-is)) b
 
   module _ (none : number ≡ 0) where
-    goes-on : pairNumber p n (part n words 0) (part n words 1) ≡ 0
+    goes-on : refuseFind p n (part n words 0) (part n words 1) ≡ 0
     goes-on = sym (found .number-is) ∙ none
 
     pub job-writable : Models p n (part n words 0) (part n words 1) → writeNumber p n 2 (take (4 * n) after) (replicate (cardLength p n 2) 0) ≡ 0

@@ -15,12 +15,12 @@ use Rattle.card.proofs.Refusals.{write-accepts}
 use Rattle.refusal.specs.Models.{Models}
 use Rattle.pair.specs.Theorem.{Given}
 use Rattle.pair.proofs.Theorem.{checker-theorem}
-use Rattle.finder.specs.Finder.{pairNumber, findNumber, findS, findR, findOutputS, findOutputR}
+use Rattle.finder.specs.Finder.{refuseFind, findNumber, findS, findR, findOutputS, findOutputR}
 use Rattle.finder.proofs.Theorem.{demand-3}
 use Rattle.fieldcard.specs.Answer.{pairWords}
 use Rattle.fieldcard.proofs.GoesOn.{find-goes-on}
 
-module _ (p n : ℕ) (t1 t2 : List ℕ) (m : Models p n t1 t2) (none : pairNumber p n t1 t2 ≡ 0) where
+module _ (p n : ℕ) (t1 t2 : List ℕ) (m : Models p n t1 t2) (none : refuseFind p n t1 t2 ≡ 0) where
   -- two lists to lend to the finder
   lent : List ℕ
   lent = replicate n 0

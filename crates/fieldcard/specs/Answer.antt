@@ -19,7 +19,7 @@ use lib.Dec.{ltb, eqb}
 use lib.ListN.{take, drop, replicate}
 use Rattle.refusal.specs.Refusal.{refuse}
 use Rattle.card.specs.Card.{card, cardPrime, cardDegree, cardKind, cardWords, readNumber}
-use Rattle.finder.specs.Finder.{findS, findR, pairNumber}
+use Rattle.finder.specs.Finder.{findS, findR, refuseFind}
 use Rattle.pair.specs.Pair.{accepts}
 
 unfoldable pub part : ℕ → List ℕ → ℕ → List ℕ
@@ -54,7 +54,7 @@ unfoldable pub pairWords : ℕ → ℕ → List ℕ → List ℕ → List ℕ
 pairWords p n t1 t2 = t1 ++ (t2 ++ (findS p n t1 t2 ++ findR p n t1 t2))
 
 unfoldable pub jobText : ℕ → ℕ → List ℕ → List ℕ → List ℕ
-jobText p n t1 t2 = printed (pairNumber p n t1 t2) (pairText (card p n 2 (pairWords p n t1 t2)))
+jobText p n t1 t2 = printed (refuseFind p n t1 t2) (pairText (card p n 2 (pairWords p n t1 t2)))
 
 unfoldable pub pairCardText : ℕ → List ℕ → List ℕ → List ℕ → List ℕ → List ℕ
 pairCardText p t1 t2 s r = printed (refuse 8 (not (accepts p t1 t2 s r)) 0) validText

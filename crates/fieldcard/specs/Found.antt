@@ -5,9 +5,9 @@ use mathlib.Core.Path.{_≡_}
 use mathlib.Core.List.{List}
 use Prim.Native.Nat.{ℕ, _*_}
 use lib.ListN.{take}
-use Rattle.finder.specs.Finder.{pairNumber}
+use Rattle.finder.specs.Finder.{refuseFind}
 use Rattle.fieldcard.specs.Answer.{part, pairWords}
 
 pub record Found (p n : ℕ) (before after : List ℕ) (number : ℕ) : Type 0 where
-  pub number-is : number ≡ pairNumber p n (part n before 0) (part n before 1)
+  pub number-is : number ≡ refuseFind p n (part n before 0) (part n before 1)
   pub words-are : number ≡ 0 → take (4 * n) after ≡ pairWords p n (part n before 0) (part n before 1)

@@ -6,7 +6,7 @@ use mathlib.Core.List.{List}
 use Prim.Native.Nat.{ℕ, _-_, _%_, _^_, _≤_, _<_}
 use native.Mathlib.Omega.{arith}
 use lib.ListN.{take}
-use borrow.Author.Tests.{not-false, eq-eqb, ne-eqb}
+use borrow.Author.Tests.{not-false}
 use Rattle.algebra.specs.Prime.{Prime}
 use Rattle.refusal.specs.Refusal.{refuse}
 use Rattle.quotient.specs.DivisorTest.{hasDivisor}
@@ -19,17 +19,18 @@ use Rattle.finder.specs.Construct.{Choices, FoundPair}
 use Rattle.roots.specs.Roots.{zeta, rootOfRatio, Admissible, OrderModulo, Solvable}
 use Rattle.galois.specs.Eigenvector.{alpha, powerConstant}
 use Rattle.galois.specs.Express.{express, Independent}
-use Rattle.finder.specs.Finder.{findS, findR, pairNumber}
-use Rattle.frobenius.specs.Kernel.{Answer}
+use Rattle.finder.specs.Finder.{findS, findR, refuseFind}
+use Rattle.frobenius.specs.Kernel.{AlphaFound}
 use Rattle.galois.proofs.Express.{express-is}
 use Rattle.galois.proofs.KernelDecides.{alpha-words, alpha-powers, alpha-power}
+use Rattle.finder.proofs.Findable.{findable-true, findable-false}
 use Rattle.finder.proofs.Values.{root-of-ratio-smallest, find-s-independent}
 use Rattle.roots.proofs.Zeta as Zeta
 use Rattle.frobenius.proofs.KernelAnswer.{not-not}
 
 -- the number where n divides p − 1
-number-from : (p n : ℕ) (t1 t2 : List ℕ) → Admissible p n → {c d : Bool} → hasDivisor p t1 ≡ c → hasDivisor p t2 ≡ d → pairNumber p n t1 t2 ≡ refuse 6 c (refuse 7 d 0)
-number-from p n t1 t2 h e1 e2 = rw (eq-eqb ((p - 1) % n) 0 (h .divides), e1, e2)
+number-from : (p n : ℕ) (t1 t2 : List ℕ) → Admissible p n → {c d : Bool} → hasDivisor p t1 ≡ c → hasDivisor p t2 ≡ d → refuseFind p n t1 t2 ≡ refuse 6 c (refuse 7 d 0)
+number-from p n t1 t2 h e1 e2 = rw (findable-true p n (h .divides), e1, e2)
 
 -- ζ
 
@@ -90,32 +91,32 @@ module _ (p n : ℕ) (t1 t2 : List ℕ) (h : Admissible p n) (h1 : Holds p n t1)
 
 -- the answer
 
-refused : (p n : ℕ) (t1 t2 : List ℕ) (number : ℕ) (s r : List ℕ) → number ≡ pairNumber p n t1 t2 → (number ≡ 0 → ⊥)
+refused : (p n : ℕ) (t1 t2 : List ℕ) (number : ℕ) (s r : List ℕ) → number ≡ refuseFind p n t1 t2 → (number ≡ 0 → ⊥)
     → FoundPair p n t1 t2 number s r
 refused p n t1 t2 number s r e other = record { number-is = e; forward-is = λ z. absurd (other z); backward-is = λ z. absurd (other z) }
 
 -- a modulus without an eigenvector has a divisor, and one with an eigenvector has none
-divisor-of : {p n : ℕ} {t : List ℕ} {z : ℕ} {f : Bool} {a : List ℕ} {b : ℕ} → Answer p n t z f a b → hasDivisor p t ≡ not f
+divisor-of : {p n : ℕ} {t : List ℕ} {z : ℕ} {f : Bool} {a : List ℕ} {b : ℕ} → AlphaFound p n t z f a b → hasDivisor p t ≡ not f
 divisor-of {p} {t = t} {f = f} h = sym (not-not (hasDivisor p t)) ∙ ap not (sym (h .decides))
 
 module _ (p n z : ℕ) (t1 t2 : List ℕ) (h : Admissible p n) where
-  module _ (f1 : Bool) (x : List ℕ) (a : ℕ) (answer1 : Answer p n t1 z f1 x a) where
+  module _ (f1 : Bool) (x : List ℕ) (a : ℕ) (answer1 : AlphaFound p n t1 z f1 x a) where
     pub refused-first : not f1 ≡ true → (number : ℕ) (s r : List ℕ) → number ≡ 6 → FoundPair p n t1 t2 number s r
     refused-first none number s r e =
         refused p n t1 t2 number s r (e ∙ sym (number-from p n t1 t2 h (divisor-of answer1 ∙ none) refl)) (λ k. omega arith)
 
-    module _ (f2 : Bool) (y : List ℕ) (b : ℕ) (answer2 : Answer p n t2 z f2 y b) (some1 : not f1 ≡ false) where
+    module _ (f2 : Bool) (y : List ℕ) (b : ℕ) (answer2 : AlphaFound p n t2 z f2 y b) (some1 : not f1 ≡ false) where
       pub refused-second : not f2 ≡ true → (number : ℕ) (s r : List ℕ) → number ≡ 7 → FoundPair p n t1 t2 number s r
       refused-second none number s r e =
           refused p n t1 t2 number s r
           (e ∙ sym (number-from p n t1 t2 h (divisor-of answer1 ∙ some1) (divisor-of answer2 ∙ none))) (λ k. omega arith)
 
 -- an eigenvector that was found
-pub found-answer : (p n : ℕ) (t : List ℕ) (z : ℕ) (f : Bool) (a : List ℕ) (b : ℕ) → Answer p n t z f a b → not f ≡ false → Answer p n t z true a b
-found-answer p n t z f a b h some = subst (λ k. Answer p n t z k a b) (not-false f some) h
+pub found-answer : (p n : ℕ) (t : List ℕ) (z : ℕ) (f : Bool) (a : List ℕ) (b : ℕ) → AlphaFound p n t z f a b → not f ≡ false → AlphaFound p n t z true a b
+found-answer p n t z f a b h some = subst (λ k. AlphaFound p n t z k a b) (not-false f some) h
 
 module _ (p n z : ℕ) (t1 t2 : List ℕ) (h : Admissible p n) (zeta-is : z ≡ zeta p n) (x y : List ℕ) (a b : ℕ)
-    (answer1 : Answer p n t1 z true x a) (answer2 : Answer p n t2 z true y b) where
+    (answer1 : AlphaFound p n t1 z true x a) (answer2 : AlphaFound p n t2 z true y b) where
   -- c exists
   root-of-ratio-exists : Words p n t1 → Words p n t2 → Solvable p n a b
   root-of-ratio-exists w1 w2 =
@@ -146,7 +147,7 @@ module _ (p n z : ℕ) (t1 t2 : List ℕ) (h : Admissible p n) (zeta-is : z ≡ 
 
 -- S and R on arrays
 module _ (p n z : ℕ) (t1 t2 : List ℕ) (h : Admissible p n) (h1 : Holds p n t1) (h2 : Holds p n t2) (x y : List ℕ) (a b : ℕ)
-    (answer1 : Answer p n (take n t1) z true x a) (answer2 : Answer p n (take n t2) z true y b) (s : List ℕ) (es : s ≡ padded (findS p n (take n t1) (take n t2))) where
+    (answer1 : AlphaFound p n (take n t1) z true x a) (answer2 : AlphaFound p n (take n t2) z true y b) (s : List ℕ) (es : s ≡ padded (findS p n (take n t1) (take n t2))) where
   independent : Words p n (findS p n (take n t1) (take n t2)) × Independent p n (take n t2) (findS p n (take n t1) (take n t2))
   independent =
       find-s-independent p (h .prime) n (take n t1) (take n t2) (h .low) (h .high) (h .divides) (h1 .words) (h2 .words) (divisor-of answer1) (divisor-of answer2)
@@ -167,7 +168,7 @@ module _ (p n z : ℕ) (t1 t2 : List ℕ) (h : Admissible p n) (h1 : Holds p n t
       }
 
 pub root-of-ratio-solvable : (p n z : ℕ) (t1 t2 x y : List ℕ) (a b : ℕ) → Admissible p n → z ≡ zeta p n → Holds p n t1 → Holds p n t2
-    → Answer p n (take n t1) z true x a → Answer p n (take n t2) z true y b → Solvable p n a b
+    → AlphaFound p n (take n t1) z true x a → AlphaFound p n (take n t2) z true y b → Solvable p n a b
 root-of-ratio-solvable p n z t1 t2 x y a b h e h1 h2 answer1 answer2 = root-of-ratio-exists p n z (take n t1) (take n t2) h e x y a b answer1 answer2 (h1 .words) (h2 .words)
 
 -- 5 first
@@ -178,4 +179,4 @@ module _ (p n : ℕ) (t1 t2 : List ℕ) where
 
   pub refused-degree : ((p - 1) % n ≡ 0 → ⊥) → (number : ℕ) (s r : List ℕ) → number ≡ 5 → FoundPair p n t1 t2 number s r
   refused-degree other number s r e =
-      refused p n t1 t2 number s r (e ∙ sym (ap (λ b. refuse 5 (not b) (refuse 6 (hasDivisor p t1) (refuse 7 (hasDivisor p t2) 0))) (ne-eqb ((p - 1) % n) 0 other))) (λ z. omega arith)
+      refused p n t1 t2 number s r (e ∙ sym (ap (λ b. refuse 5 (not b) (refuse 6 (hasDivisor p t1) (refuse 7 (hasDivisor p t2) 0))) (findable-false p n other))) (λ z. omega arith)

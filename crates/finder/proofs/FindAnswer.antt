@@ -1,45 +1,25 @@
 -- The public call: what the refusals leave, the copies between lists and arrays, and what the two lent lists hold at the end.
 use mathlib.Core.Path.{_≡_, refl, sym, ap, subst, subst₂, _∙_}
-use mathlib.Core.Bool.{false, not}
 use mathlib.Core.List.{List, [], _∷_}
-use mathlib.Core.Logic.{inl, inr}
-use Prim.Native.Nat.{ℕ, _-_, _%_, _^_, _≤_}
+use Prim.Native.Nat.{ℕ, _^_, _≤_}
 use native.Mathlib.Omega.{arith}
-use lib.Dec.{eqb}
 use lib.ListN.{length, take}
-use borrow.Author.Tests.{eq-eqb, eqb-true, not-false}
-use Rattle.algebra.specs.Lists.{Member, all}
-use Rattle.algebra.proofs.Search.{member-of-all}
-use Rattle.refusal.specs.Refusal.{refuseSent, badLength, written}
-use Rattle.quotient.specs.DivisorTest.{hasDivisor}
+use Rattle.refusal.specs.Refusal.{refuseSent, written}
 use Rattle.array.specs.Words.{Words}
-use Rattle.refusal.proofs.Refusal.{refuse-none, Sent, sent-given, given-sent, sent-stays}
-use Rattle.refusal.proofs.Lists.{words-given}
+use Rattle.refusal.proofs.Refusal.{Sent, sent-given, given-sent, sent-stays}
+use Rattle.refusal.proofs.TwoModels.{sent-models}
 use Rattle.array.proofs.Words.{words-length}
 use Rattle.array.specs.Array.{padded, Holds}
 use Rattle.refusal.proofs.Written.{output-new, output-old}
 use Rattle.array.proofs.Words.{words-up}
 use Rattle.array.proofs.Padded.{front-is, holds-is}
-use Rattle.arithmetic.proofs.Refusals.{word-twice}
 use Rattle.finder.specs.Construct.{FoundPair}
-use Rattle.finder.specs.Finder.{findS, findR, pairNumber, findNumber, findOutputS, findOutputR}
+use Rattle.finder.specs.Finder.{findS, findR, refuseFind, findNumber, findOutputS, findOutputR}
 use Rattle.galois.specs.Express.{Independent}
 use Rattle.refusal.specs.Models.{Models}
 use Rattle.galois.proofs.Express.{express-is}
+use Rattle.finder.proofs.Findable.{none-apply}
 use Rattle.finder.proofs.Values.{find-s-independent}
-
--- a list that is named twice adds no refusal
-pub refusal-is : (p n number : ℕ) (xss : List (List ℕ)) (t1 t2 : List ℕ) → number ≡ refuseSent p n xss (t1 ∷ t2 ∷ t2 ∷ []) 0
-    → number ≡ refuseSent p n xss (t1 ∷ t2 ∷ []) 0
-refusal-is p n number xss t1 t2 e = rw (word-twice p t1 t2) at e
-
--- what 5 to 7 leave
-pub none-apply : (p n : ℕ) (t1 t2 : List ℕ) → pairNumber p n t1 t2 ≡ 0 → ((p - 1) % n ≡ 0) × (hasDivisor p t1 ≡ false) × (hasDivisor p t2 ≡ false)
-none-apply p n t1 t2 h =
-    let (divides, h6) = refuse-none 4 (not (eqb ((p - 1) % n) 0)) _ h in
-    let (first, h7) = refuse-none 5 (hasDivisor p t1) _ h6 in
-    let (second, _) = refuse-none 6 (hasDivisor p t2) 0 h7 in
-    (eqb-true ((p - 1) % n) 0 (not-false (eqb ((p - 1) % n) 0) divides), first, second)
 
 -- the arrays that hold the moduli
 
@@ -61,7 +41,7 @@ module _ (p n : ℕ) (t1 t2 : List ℕ) (m : Models p n t1 t2) where
 
   -- the pair into the lent lists
   module _ (number : ℕ) (f g : List ℕ) (found : FoundPair p n t1 t2 number f g) where
-    pub number-of : number ≡ pairNumber p n t1 t2
+    pub number-of : number ≡ refuseFind p n t1 t2
     number-of = found .number-is
 
     pub kept : (number ≡ 0 → ⊥) → (new old : List ℕ) → old ≡ written number new old
@@ -120,34 +100,24 @@ module _ (p n number : ℕ) (t1 t2 s r : List ℕ)
     sent : Sent p n (t1 ∷ t2 ∷ s ∷ r ∷ []) (t1 ∷ t2 ∷ [])
     sent = sent-given p n (t1 ∷ t2 ∷ s ∷ r ∷ []) (t1 ∷ t2 ∷ []) 0 (sym e ∙ zero-is) .0
 
-    size-of : (xs : List ℕ) → Member xs (t1 ∷ t2 ∷ s ∷ r ∷ []) → length xs ≡ n
-    unfolding badLength
-    size-of xs l = eqb-true (length xs) n (member-of-all (λ ys. eqb (length ys) n) (t1 ∷ t2 ∷ s ∷ r ∷ []) (not-false _ (sent .lengths)) xs l)
-
     pub forward-size : length s ≡ n
-    forward-size = size-of s (inr (inr (inl refl)))
+    forward-size = sent .lengths .1 .1 .0
 
     pub backward-size : length r ≡ n
-    backward-size = size-of r (inr (inr (inr (inl refl))))
-
-    lengths : badLength n (t1 ∷ t2 ∷ []) ≡ false
-    unfolding badLength all
-    lengths = rw (eq-eqb (length t1) n (size-of t1 (inl refl)), eq-eqb (length t2) n (size-of t2 (inr (inl refl))))
+    backward-size = sent .lengths .1 .1 .1 .0
 
     pub models : Models p n t1 t2
-    models =
-        let lists = words-given p n (t1 ∷ t2 ∷ []) lengths (sent .words) in
-        record { prime = sent .prime; small = sent .small; degree = (sent .low, sent .high); modulus1 = lists .0; modulus2 = lists .1 .0 }
+    models = sent-models p n t1 t2 (s ∷ r ∷ []) [] sent
 
     -- nothing of 1 to 4 applies, so 5 to 7 decide
-    pub find-answered : (answer : ℕ) → answer ≡ pairNumber p n t1 t2 → answer ≡ findNumber p n t1 t2 s r
+    pub find-answered : (answer : ℕ) → answer ≡ refuseFind p n t1 t2 → answer ≡ findNumber p n t1 t2 s r
     unfolding findNumber
     find-answered answer f = f ∙ sym (given-sent p n (t1 ∷ t2 ∷ s ∷ r ∷ []) (t1 ∷ t2 ∷ []) _ sent)
 
-    pub forward-output : (answer : ℕ) → answer ≡ pairNumber p n t1 t2 → (s′ : List ℕ) → s′ ≡ written answer (findS p n t1 t2) s → s′ ≡ findOutputS p n t1 t2 s r
+    pub forward-output : (answer : ℕ) → answer ≡ refuseFind p n t1 t2 → (s′ : List ℕ) → s′ ≡ written answer (findS p n t1 t2) s → s′ ≡ findOutputS p n t1 t2 s r
     unfolding findOutputS
     forward-output answer f s′ h = h ∙ ap (λ k. written k (findS p n t1 t2) s) (find-answered answer f)
 
-    pub backward-output : (answer : ℕ) → answer ≡ pairNumber p n t1 t2 → (r′ : List ℕ) → r′ ≡ written answer (findR p n t1 t2) r → r′ ≡ findOutputR p n t1 t2 s r
+    pub backward-output : (answer : ℕ) → answer ≡ refuseFind p n t1 t2 → (r′ : List ℕ) → r′ ≡ written answer (findR p n t1 t2) r → r′ ≡ findOutputR p n t1 t2 s r
     unfolding findOutputR
     backward-output answer f r′ h = h ∙ ap (λ k. written k (findR p n t1 t2) r) (find-answered answer f)

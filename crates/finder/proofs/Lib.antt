@@ -2,6 +2,7 @@
 pub mod Construction
 pub mod ChosenPair
 pub mod Values
+pub mod Findable
 pub mod Theorem
 pub mod Constructed
 pub mod FindAnswer

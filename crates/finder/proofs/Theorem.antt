@@ -3,33 +3,29 @@
 -- Without those the searches find the chosen pair, it satisfies the congruences, and the checker accepts it.
 --   Returned p n t1 t2   what the answer 0 says of two models
 --   decided              where n divides p − 1, what 6 and 7 say is the answer
-use mathlib.Core.Path.{_≡_, refl, sym, ap, ap₂, subst₂, _∙_}
-use mathlib.Core.Bool.{_&&_, Bool, true, false, not}
+use mathlib.Core.Path.{_≡_, refl, sym, ap, subst₂, _∙_}
+use mathlib.Core.Bool.{Bool, true, false}
 use mathlib.Core.List.{List, [], _∷_}
 use mathlib.Core.Logic.{_↔_}
-use Prim.Native.Nat.{ℕ, zero, suc, _-_, _%_}
+use Prim.Native.Nat.{ℕ, zero, suc}
 use native.Mathlib.Omega.{arith}
 use lib.ListN.{length}
-use borrow.Author.Tests.{eq-eqb}
-use Rattle.algebra.specs.Lists.{all}
-use Rattle.refusal.specs.Refusal.{refuse, badLength, written}
+use Rattle.refusal.specs.Refusal.{refuse, written}
 use Rattle.pair.specs.Pair.{checkNumber}
 use Rattle.refusal.specs.Models.{Models}
 use Rattle.pair.proofs.Theorem.{checker-theorem}
 use Rattle.quotient.specs.Divisor.{HasDivisor}
 use Rattle.quotient.specs.DivisorTest.{hasDivisor}
-use Rattle.refusal.proofs.Refusal.{sent-given, given-sent}
+use Rattle.refusal.proofs.Refusal.{sent-given}
 use Rattle.quotient.proofs.Decision.{test-has-divisor, has-divisor-test}
-use Rattle.refusal.proofs.Lists.{given-words}
-use Rattle.array.proofs.Words.{words-length}
-use Rattle.finder.specs.Finder.{findS, findR, findNumber, findOutputS, findOutputR}
+use Rattle.finder.specs.Finder.{Findable, refuseFind, findS, findR, findNumber, findOutputS, findOutputR}
 use Rattle.finder.specs.Theorem.{ChosenPair, Demand3Theorem}
 use Rattle.finder.proofs.ChosenPair.{chosen-words, chosen-congruences, chosen-unique, found-chosen}
-use Rattle.finder.proofs.FindAnswer.{none-apply}
+use Rattle.finder.proofs.Findable.{findable-true, none-apply, find-models}
 use Rattle.galois.proofs.KernelDecides.{test-irreducible, irreducible-test}
 
 record Returned (p n : ℕ) (t1 t2 : List ℕ) : Type 0 where
-  divides : (p - 1) % n ≡ 0
+  divides : Findable p n
   irreducible1 : HasDivisor p t1 → ⊥
   irreducible2 : HasDivisor p t2 → ⊥
 
@@ -56,27 +52,9 @@ module _ (p n : ℕ) (t1 t2 : List ℕ) (models : Models p n t1 t2) (lentS lentR
         irreducible2 = test-irreducible p (models .prime) (models .modulus2) second;
       }
 
-  lengths-given : length lentS ≡ n → length lentR ≡ n → badLength n (t1 ∷ t2 ∷ lentS ∷ lentR ∷ []) ≡ false
-  unfolding badLength all
-  lengths-given lengthS lengthR =
-      ap not
-      (ap₂ _&&_ (eq-eqb (length t1) n (words-length (models .modulus1)))
-      (ap₂ _&&_ (eq-eqb (length t2) n (words-length (models .modulus2))) (ap₂ _&&_ (eq-eqb (length lentS) n lengthS) (ap₂ _&&_ (eq-eqb (length lentR) n lengthR) refl))))
-
-  module _ (divides : (p - 1) % n ≡ 0) (lengthS : length lentS ≡ n) (lengthR : length lentR ≡ n) where
+  module _ (divides : Findable p n) (lengthS : length lentS ≡ n) (lengthR : length lentR ≡ n) where
     decided : findNumber p n t1 t2 lentS lentR ≡ refuse 6 (hasDivisor p t1) (refuse 7 (hasDivisor p t2) 0)
-    unfolding findNumber
-    decided =
-        given-sent p n (t1 ∷ t2 ∷ lentS ∷ lentR ∷ []) (t1 ∷ t2 ∷ []) _
-        (record {
-          prime = models .prime;
-          small = models .small;
-          low = models .degree .0;
-          high = models .degree .1;
-          lengths = lengths-given lengthS lengthR;
-          words = given-words p n (t1 ∷ t2 ∷ []) (models .modulus1, (models .modulus2, tt));
-        })
-        ∙ rw (eq-eqb ((p - 1) % n) 0 divides)
+    decided = find-models p n t1 t2 models lentS lentR lengthS lengthR ∙ rw (findable-true p n divides)
 
     none1 : (HasDivisor p t1 → ⊥) → hasDivisor p t1 ≡ false
     none1 = irreducible-test p (models .prime) (models .modulus1)
@@ -99,7 +77,7 @@ module _ (p n : ℕ) (t1 t2 : List ℕ) (models : Models p n t1 t2) (lentS lentR
     )
 
 -- the pair that is found is chosen, and the checker accepts it
-found-accepted : (p n : ℕ) (t1 t2 : List ℕ) → Models p n t1 t2 → (p - 1) % n ≡ 0 → (HasDivisor p t1 → ⊥) → (HasDivisor p t2 → ⊥)
+found-accepted : (p n : ℕ) (t1 t2 : List ℕ) → Models p n t1 t2 → Findable p n → (HasDivisor p t1 → ⊥) → (HasDivisor p t2 → ⊥)
     → ChosenPair p n t1 t2 (findS p n t1 t2) (findR p n t1 t2) × (checkNumber p n t1 t2 (findS p n t1 t2) (findR p n t1 t2) ≡ 0)
 found-accepted p zero t1 t2 models divides irreducible1 irreducible2 = absurd (omega (arith, models .degree))
 found-accepted p (suc n) t1 t2 models divides irreducible1 irreducible2 =
@@ -114,6 +92,12 @@ found-accepted p (suc n) t1 t2 models divides irreducible1 irreducible2 =
           }
           (chosen-congruences (models .prime) (models .modulus1) (models .modulus2) h),
     )
+
+-- where 5 to 7 do not apply to two models, the checker accepts the pair
+pub accepted-pair : (p n : ℕ) (t1 t2 : List ℕ) → Models p n t1 t2 → refuseFind p n t1 t2 ≡ 0 → checkNumber p n t1 t2 (findS p n t1 t2) (findR p n t1 t2) ≡ 0
+accepted-pair p n t1 t2 models h =
+    let (divides, first, second) = none-apply p n t1 t2 h in
+    found-accepted p n t1 t2 models divides (test-irreducible p (models .prime) (models .modulus1) first) (test-irreducible p (models .prime) (models .modulus2) second) .1
 
 one-pair : (p n : ℕ) (t1 t2 : List ℕ) → Models p n t1 t2 → (s r s' r' : List ℕ) → ChosenPair p n t1 t2 s r → ChosenPair p n t1 t2 s' r' → (s ≡ s') × (r ≡ r')
 one-pair p zero t1 t2 models s r s' r' h h' = absurd (omega (arith, models .degree))

@@ -25,8 +25,8 @@ module _ (p : ℕ) (prime : Prime p) where
       → Smallest (λ k. k ^ n * powerConstant p t2 (alpha p t2 z) % p ≡ powerConstant p t1 (alpha p t1 z)) p (rootOfRatio p n (powerConstant p t1 (alpha p t1 z)) (powerConstant p t2 (alpha p t2 z)))
   root-of-ratio-smallest zero t1 t2 low divides w1 w2 z below order e1 e2 = absurd (omega arith)
   root-of-ratio-smallest (suc n) t1 t2 low divides w1 w2 z below order e1 e2 =
-      let i1 = test-irreducible w1 e1 in
-      let i2 = test-irreducible w2 e2 in
+      let i1 = test-irreducible p prime w1 e1 in
+      let i2 = test-irreducible p prime w2 e2 in
       root-of-ratio-found prime w1 w2 z order below divides (alpha-kernel prime w1 z order i1) (alpha-kernel prime w2 z order i2) _ _
       (alpha-constant prime w1 z order i1) (alpha-constant prime w2 z order i2)
 
@@ -35,5 +35,5 @@ module _ (p : ℕ) (prime : Prime p) where
       → hasDivisor p t1 ≡ false → hasDivisor p t2 ≡ false → Words p n (findS p n t1 t2) × Independent p n t2 (findS p n t1 t2)
   find-s-independent zero t1 t2 low high divides w1 w2 e1 e2 = absurd (omega arith)
   find-s-independent (suc n) t1 t2 low high divides w1 w2 e1 e2 =
-      let h = found-chosen prime high divides w1 w2 (test-irreducible w1 e1) (test-irreducible w2 e2) in
+      let h = found-chosen prime high divides w1 w2 (test-irreducible p prime w1 e1) (test-irreducible p prime w2 e2) in
       (chosen-words prime w1 w2 h, chosen-independent prime w1 w2 h)

@@ -9,7 +9,7 @@ use Rattle.quotient.specs.DivisorTest.{hasDivisor}
 use Rattle.array.specs.Array.{padded}
 use Rattle.roots.specs.Roots.{zeta, rootOfRatio}
 use Rattle.galois.specs.Eigenvector.{alpha, powerConstant}
-use Rattle.finder.specs.Finder.{findS, findR, pairNumber}
+use Rattle.finder.specs.Finder.{findS, findR, refuseFind}
 
 pub record Choices (p n : ℕ) (t1 t2 : List ℕ) (c : ℕ) (x y : List ℕ) : Type 0 where
   pub irreducible1 : hasDivisor p t1 ≡ false
@@ -20,6 +20,6 @@ pub record Choices (p n : ℕ) (t1 t2 : List ℕ) (c : ℕ) (x y : List ℕ) : T
   pub c-small : c < p
 
 pub record FoundPair (p n : ℕ) (t1 t2 : List ℕ) (number : ℕ) (s r : List ℕ) : Type 0 where
-  pub number-is : number ≡ pairNumber p n t1 t2
+  pub number-is : number ≡ refuseFind p n t1 t2
   pub forward-is : number ≡ 0 → s ≡ padded (findS p n t1 t2)
   pub backward-is : number ≡ 0 → r ≡ padded (findR p n t1 t2)

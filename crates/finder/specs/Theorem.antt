@@ -6,14 +6,15 @@
 -- (b) if n divides p − 1, the finder, lent two lists of n words, returns a pair exactly when neither modulus has a monic divisor of
 --     degree 1 to n − 1, refuses with 6 exactly when T1 has one, and with 7 exactly when T1 has none and T2 has one; the pair that it
 --     returns is the one of Algorithm 2.1 with document 01's choices, and the checker accepts it.
---   Models p n t1 t2 (of pair)  p is a prime up to 65,535, n is 1 to 16, and t1 and t2 are n words below p each
---   Smallest P p k              k is the smallest integer from 1 to p − 1 that satisfies P
---   Eigenvector p t z a         a is not zero, a^p = z·a modulo T, and its first coefficient that is not zero is 1
+--   Models p n t1 t2 (of refusal)      p is a prime up to 65,535, n is 1 to 16, and t1 and t2 are n words below p each
+--   Smallest P p k (of algebra)        k is the smallest integer from 1 to p − 1 that satisfies P
+--   Eigenvector p t z a (of galois)    a is not zero, a^p = z·a modulo T, and its first coefficient that is not zero is 1
+--   Findable p n (of Finder.antt)      n divides p − 1
 --   ChosenPair p n t1 t2 s r    S and R are the polynomials of Algorithm 2.1 with the choices of document 01
 use mathlib.Core.Path.{_≡_}
 use mathlib.Core.List.{List}
 use mathlib.Core.Logic.{_↔_}
-use Prim.Native.Nat.{ℕ, _-_, _*_, _%_, _^_, _≤_, _<_}
+use Prim.Native.Nat.{ℕ, _*_, _%_, _^_, _≤_, _<_}
 use lib.ListN.{length}
 use Rattle.pair.specs.Pair.{checkNumber}
 use Rattle.refusal.specs.Models.{Models}
@@ -23,7 +24,7 @@ use Rattle.array.specs.Words.{Words}
 use Rattle.quotient.specs.Residue.{scale, constant, power, residueOfX, substitute}
 use Rattle.algebra.specs.Search.{Smallest}
 use Rattle.galois.specs.Eigenvector.{Eigenvector}
-use Rattle.finder.specs.Finder.{findNumber, findOutputS, findOutputR}
+use Rattle.finder.specs.Finder.{Findable, findNumber, findOutputS, findOutputR}
 
 pub record ChosenPair (p n : ℕ) (t1 t2 s r : List ℕ) : Type 0 where
   pub z : ℕ
@@ -46,13 +47,13 @@ pub record ChosenPair (p n : ℕ) (t1 t2 s r : List ℕ) : Type 0 where
 pub record Demand3 (p n : ℕ) (t1 t2 : List ℕ) : Type 0 where
   pub accepted : (s r : List ℕ) → checkNumber p n t1 t2 s r ≡ 0 → Isomorphisms p n t1 t2 s r
   pub returns :
-      (p - 1) % n ≡ 0 → (lentS lentR : List ℕ) → length lentS ≡ n → length lentR ≡ n
+      Findable p n → (lentS lentR : List ℕ) → length lentS ≡ n → length lentR ≡ n
       → (findNumber p n t1 t2 lentS lentR ≡ 0) ↔ ((HasDivisor p t1 → ⊥) × (HasDivisor p t2 → ⊥))
   pub six :
-      (p - 1) % n ≡ 0 → (lentS lentR : List ℕ) → length lentS ≡ n → length lentR ≡ n
+      Findable p n → (lentS lentR : List ℕ) → length lentS ≡ n → length lentR ≡ n
       → (findNumber p n t1 t2 lentS lentR ≡ 6) ↔ HasDivisor p t1
   pub seven :
-      (p - 1) % n ≡ 0 → (lentS lentR : List ℕ) → length lentS ≡ n → length lentR ≡ n
+      Findable p n → (lentS lentR : List ℕ) → length lentS ≡ n → length lentR ≡ n
       → (findNumber p n t1 t2 lentS lentR ≡ 7) ↔ ((HasDivisor p t1 → ⊥) × HasDivisor p t2)
   pub found :
       (lentS lentR : List ℕ) → findNumber p n t1 t2 lentS lentR ≡ 0

@@ -8,7 +8,7 @@ ghost use Rattle.array.specs.Array.{padded, Holds};
 ghost use Rattle.finder.specs.Construct.{Choices, FoundPair};
 ghost use Rattle.roots.specs.Roots.{zeta as zetaOf, Admissible};
 ghost use Rattle.finder.specs.Finder.{findS};
-ghost use Rattle.frobenius.specs.Kernel.{Answer};
+ghost use Rattle.frobenius.specs.Kernel.{AlphaFound};
 use frobenius::eigenvector::Alpha;
 use frobenius::eigenvector::eigenvector;
 use frobenius::express::express;
@@ -41,7 +41,7 @@ fn forward(
 }
 
 // The number 5, 6 or 7 of a refusal, or 0 with S and R.
-pub struct Found {
+pub struct Construction {
     pub number: u32,
     pub forward: [u64; 16],
     pub backward: [u64; 16],
@@ -57,20 +57,20 @@ fn pair(
     first: Alpha,
     second: Alpha,
     m: &mut [u64; 256],
-) -> Found
+) -> Construction
     requires { ⌜ Admissible p n ⌝ }
     requires { ⌜ (z < p) × (z ≡ zetaOf p n) ⌝ }
     requires { ⌜ Holds p n (now t1) × Holds p n (now t2) ⌝ }
     requires { ⌜ length (now m) ≡ 256 ⌝ }
-    requires { ⌜ Answer p n (take n (now t1)) z true (first .vector) (first .constant) ⌝ }
-    requires { ⌜ Answer p n (take n (now t2)) z true (second .vector) (second .constant) ⌝ }
+    requires { ⌜ AlphaFound p n (take n (now t1)) z true (first .vector) (first .constant) ⌝ }
+    requires { ⌜ AlphaFound p n (take n (now t2)) z true (second .vector) (second .constant) ⌝ }
     ensures { λ r. ⌜ FoundPair p n (take n (now (t1 .entry))) (take n (now (t2 .entry))) (r .number) (r .forward) (r .backward) ⌝ }
 {
     let c = root_of_ratio(p, n as u64, z, first.constant, second.constant);
     let alpha1 = first.vector;
     let alpha2 = second.vector;
     let s = forward(p, n, c, t1, t2, &alpha1, &alpha2, m);
-    Found {
+    Construction {
         number: 0,
         forward: s,
         backward: express(p, n, t2, &s, m),
@@ -78,10 +78,10 @@ fn pair(
 }
 
 // A refusal.
-fn refusal(number: u32) -> Found
+fn refusal(number: u32) -> Construction
     ensures { λ r. ⌜ r .number ≡ number ⌝ }
 {
-    Found {
+    Construction {
         number: number,
         forward: [0; 16],
         backward: [0; 16],
@@ -89,7 +89,7 @@ fn refusal(number: u32) -> Found
 }
 
 // S and R for the two models, or the refusal of a modulus with a monic divisor of degree 1 to n − 1. One array serves the four systems.
-fn construct(p: u64, n: usize, t1: &[u64; 16], t2: &[u64; 16]) -> Found
+fn from_eigenvectors(p: u64, n: usize, t1: &[u64; 16], t2: &[u64; 16]) -> Construction
     requires { ⌜ Admissible p n ⌝ }
     requires { ⌜ Holds p n (now t1) × Holds p n (now t2) ⌝ }
     ensures { λ r. ⌜ FoundPair p n (take n (now (t1 .entry))) (take n (now (t2 .entry))) (r .number) (r .forward) (r .backward) ⌝ }
@@ -108,7 +108,7 @@ fn construct(p: u64, n: usize, t1: &[u64; 16], t2: &[u64; 16]) -> Found
 }
 
 // The same where n need not divide p − 1.
-pub fn find_pair(p: u64, n: usize, t1: &[u64; 16], t2: &[u64; 16]) -> Found
+pub fn construct(p: u64, n: usize, t1: &[u64; 16], t2: &[u64; 16]) -> Construction
     requires { ⌜ Prime p ⌝ }
     requires { ⌜ (p ≤ 2 ^ 20) × (1 ≤ n) × (n ≤ 16) ⌝ }
     requires { ⌜ Holds p n (now t1) × Holds p n (now t2) ⌝ }
@@ -117,5 +117,5 @@ pub fn find_pair(p: u64, n: usize, t1: &[u64; 16], t2: &[u64; 16]) -> Found
     if (p - 1) % (n as u64) != 0 {
         return refusal(5);
     }
-    construct(p, n, t1, t2)
+    from_eigenvectors(p, n, t1, t2)
 }

@@ -17,7 +17,7 @@ use Rattle.array.proofs.Words.{words-length}
 use Rattle.array.specs.Array.{padded, Holds}
 use Rattle.array.proofs.Padded.{front-is, holds-is}
 use Rattle.galois.specs.Eigenvector.{firstNonZero, alpha, powerConstant}
-use Rattle.frobenius.specs.Kernel.{Kernel, Answer}
+use Rattle.frobenius.specs.Kernel.{Kernel, AlphaFound}
 use Rattle.roots.specs.Roots.{Admissible, OrderModulo}
 use Rattle.algebra.specs.Search.{Decides}
 use Rattle.galois.proofs.KernelVector.{KernelVector, kernel-of-eigenvector, normalised-eigenvector}
@@ -45,7 +45,7 @@ module _ (p n z : ℕ) (t : List ℕ) (h : Admissible p n) (order : OrderModulo 
   abbrev T : List ℕ
   T = take n t
 
-  pub answer-none : (r : Bool) (v : List ℕ) → Kernel p n T z r v → r ≡ true → (a : List ℕ) (b : ℕ) → Answer p n T z false a b
+  pub answer-none : (r : Bool) (v : List ℕ) → Kernel p n T z r v → r ≡ true → (a : List ℕ) (b : ℕ) → AlphaFound p n T z false a b
   answer-none r v kernel e a b =
       record {
         decides = sym (ap not (trivial-kernel-decides p (h .prime) n T (h .low) (ht .words) z order (kernel .if-regular e)));
@@ -96,7 +96,7 @@ module _ (p n z : ℕ) (t : List ℕ) (h : Admissible p n) (order : OrderModulo 
         constant-word =
             sym (getD-take n w 0 0 (h .low)) ∙ ap (λ u. getD u 0 0) value ∙ ap (λ k. getD (power p T (normalised p U) k) 0 0) (sym (words-length (ht .words)))
 
-        pub answer-found : (f : Bool) → Decides f (take n w ≡ constant n (getD w 0 0)) → Answer p n T z f a (getD w 0 0)
+        pub answer-found : (f : Bool) → Decides f (take n w ≡ constant n (getD w 0 0)) → AlphaFound p n T z f a (getD w 0 0)
         answer-found f d =
             record {
               decides = decides;

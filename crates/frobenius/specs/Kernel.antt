@@ -1,7 +1,7 @@
 -- The eigenvector of the p-th power as the code finds it: in the kernel of u ↦ u^p − z·u.
 --   Shifted p n z m c           the matrix c is m − z: z is subtracted on the diagonal
 --   Kernel p n t z regular v    regular: only 0 satisfies u^p = z·u modulo T; else v satisfies it and is not 0
---   Answer p n t z found a b    found: T has no monic divisor of degree 1 to n − 1, and then a is α and b the constant α^n
+--   AlphaFound p n t z found a b    found: T has no monic divisor of degree 1 to n − 1, and then a is α and b the constant α^n
 use mathlib.Core.Path.{_≡_}
 use mathlib.Core.Bool.{Bool, true, false, not}
 use mathlib.Core.List.{List}
@@ -24,7 +24,7 @@ pub record Kernel (p n : ℕ) (t : List ℕ) (z : ℕ) (regular : Bool) (v : Lis
   pub not-zero : regular ≡ false → take n v ≡ constant n 0 → ⊥
   pub power-is : regular ≡ false → power p t (take n v) p ≡ scale p z (take n v)
 
-pub record Answer (p n : ℕ) (t : List ℕ) (z : ℕ) (found : Bool) (a : List ℕ) (b : ℕ) : Type 0 where
+pub record AlphaFound (p n : ℕ) (t : List ℕ) (z : ℕ) (found : Bool) (a : List ℕ) (b : ℕ) : Type 0 where
   pub decides : found ≡ not (hasDivisor p t)
   pub alpha-is : found ≡ true → a ≡ padded (alpha p t z)
   pub constant-is : found ≡ true → b ≡ powerConstant p t (alpha p t z)

@@ -6,7 +6,7 @@ ghost use Prim.Native.Nat.{_^_, _≤_, _<_};
 ghost use lib.ListN.{length, take};
 ghost use Rattle.algebra.specs.Prime.{Prime};
 ghost use Rattle.array.specs.Array.{Square, Holds};
-ghost use Rattle.frobenius.specs.Kernel.{Shifted, Kernel, Answer};
+ghost use Rattle.frobenius.specs.Kernel.{Shifted, Kernel, AlphaFound};
 ghost use Rattle.roots.specs.Roots.{Admissible, OrderModulo};
 use crate::vector::is_constant;
 use crate::vector::normalise;
@@ -59,7 +59,7 @@ fn from_kernel(p: u64, n: usize, z: u64, t: &[u64; 16], v: &[u64; 16]) -> Alpha
     requires { ⌜ (z < p) × OrderModulo p n z ⌝ }
     requires { ⌜ Holds p n (now t) ⌝ }
     requires { ⌜ Kernel p n (take n (now t)) z false (now v) ⌝ }
-    ensures { λ r. ⌜ Answer p n (take n (now (t .entry))) z (r .found) (r .vector) (r .constant) ⌝ }
+    ensures { λ r. ⌜ AlphaFound p n (take n (now (t .entry))) z (r .found) (r .vector) (r .constant) ⌝ }
 {
     let alpha = normalise(p, n, v);
     let power = power(p, n, t, &alpha, n as u64);
@@ -76,7 +76,7 @@ pub fn eigenvector(p: u64, n: usize, z: u64, t: &[u64; 16], m: &mut [u64; 256]) 
     requires { ⌜ (z < p) × OrderModulo p n z ⌝ }
     requires { ⌜ Holds p n (now t) ⌝ }
     requires { ⌜ length (now m) ≡ 256 ⌝ }
-    ensures { λ r. ⌜ Answer p n (take n (now (t .entry))) z (r .found) (r .vector) (r .constant) ⌝ }
+    ensures { λ r. ⌜ AlphaFound p n (take n (now (t .entry))) z (r .found) (r .vector) (r .constant) ⌝ }
     ensures { λ _. ⌜ length (now (m .exit)) ≡ 256 ⌝ }
 {
     let answer = kernel(p, n, z, t, m);

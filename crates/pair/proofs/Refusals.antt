@@ -1,19 +1,19 @@
--- The checker's refusals: what each test of the code says of its condition, and what 1 to 4 leave.
-use mathlib.Core.Path.{_≡_, refl, sym, ap, _∙_}
-use mathlib.Core.Bool.{Bool, true, false, not, _&&_, and-true}
+-- The checker's refusals: what 1 to 4 leave, and the number after them.
+use mathlib.Core.Path.{_≡_, sym, ap, _∙_}
+use mathlib.Core.Bool.{Bool, true, false, not}
 use mathlib.Core.List.{List, [], _∷_}
 use Prim.Native.Nat.{ℕ, _^_, _≤_}
 use native.Mathlib.Omega.{arith}
 use lib.ListN.{length, take}
-use Rattle.algebra.specs.Lists.{All, all}
-use Rattle.array.specs.Words.{allBelow, Words}
-use Rattle.refusal.specs.Refusal.{refuse, refuseSent, badWord}
+use Rattle.array.specs.Words.{Words}
+use Rattle.refusal.specs.Refusal.{refuse, refuseSent}
 use Rattle.refusal.proofs.Refusal.{Sent, sent-given, given-sent, sent-stays}
-use Rattle.refusal.proofs.Lists.{words-given, given-lengths, given-words}
+use Rattle.refusal.proofs.Lists.{words-of, words-below}
+use Rattle.refusal.proofs.TwoModels.{models-sent, sent-models}
 use Rattle.array.proofs.Words.{words-length}
 use Rattle.array.specs.Array.{padded, Holds}
 use Rattle.array.proofs.Padded.{holds-is, front-is}
-use Rattle.pair.specs.Pair.{accepts, checkNumber}
+use Rattle.pair.specs.Pair.{accepts, checkNumber, checkNumberOr}
 use Rattle.pair.specs.Theorem.{Given}
 
 -- what 1 to 4 leave
@@ -24,47 +24,29 @@ module _ (p n : ℕ) (t1 t2 s r : List ℕ) where
 
   pub given : Sent p n lists lists → Given p n t1 t2 s r
   given h =
-      let words = words-given p n lists (h .lengths) (h .words) in
       record {
-        models = record { prime = h .prime; small = h .small; degree = (h .low, h .high); modulus1 = words .0; modulus2 = words .1 .0 };
-        words-s = words .1 .1 .0;
-        words-r = words .1 .1 .1 .0;
+        models = sent-models p n t1 t2 (s ∷ r ∷ []) (s ∷ r ∷ []) h;
+        words-s = words-of p n s (h .lengths .1 .1 .0) (h .below .1 .1 .0);
+        words-r = words-of p n r (h .lengths .1 .1 .1 .0) (h .below .1 .1 .1 .0);
       }
 
   pub all-sent : Given p n t1 t2 s r → Sent p n lists lists
   all-sent g =
-      let words : All (Words p n) lists = (g .models .modulus1, (g .models .modulus2, (g .words-s, (g .words-r, tt)))) in
+      let sent = models-sent p n t1 t2 (s ∷ r ∷ []) (g .models) (words-length (g .words-s), (words-length (g .words-r), tt)) in
       record {
-        prime = g .models .prime;
-        small = g .models .small;
-        low = g .models .degree .0;
-        high = g .models .degree .1;
-        lengths = given-lengths p n lists words;
-        words = given-words p n lists words;
+        prime = sent .prime;
+        small = sent .small;
+        low = sent .low;
+        high = sent .high;
+        lengths = sent .lengths;
+        below = (sent .below .0, (sent .below .1 .0, (words-below (g .words-s), (words-below (g .words-r), tt))));
       }
 
--- the tests of the code
-
-last-apart : (a b c d : Bool) → not (a && (b && (c && (d && true)))) ≡ not (not (not (a && (b && (c && true)))) && d)
-last-apart true true true d = ap not (and-true d)
-last-apart true true false d = refl
-last-apart true false c d = refl
-last-apart false b c d = refl
-
-module _ (p : ℕ) (t1 t2 s r : List ℕ) (a : Bool) (e : a ≡ badWord p (t1 ∷ t2 ∷ s ∷ [])) where
-  words-split : badWord p (t1 ∷ t2 ∷ s ∷ r ∷ []) ≡ not (not a && allBelow p r)
-  unfolding badWord all
-  words-split = last-apart (allBelow p t1) (allBelow p t2) (allBelow p s) (allBelow p r) ∙ ap (λ x. not (not x && allBelow p r)) (sym e)
-
-  pub word-front : a ≡ true → true ≡ badWord p (t1 ∷ t2 ∷ s ∷ r ∷ [])
-  word-front h = sym (words-split ∙ ap (λ x. not (not x && allBelow p r)) h)
-
-  pub word-last : (b : Bool) → a ≡ false → b ≡ allBelow p r → not b ≡ badWord p (t1 ∷ t2 ∷ s ∷ r ∷ [])
-  word-last b h f = ap not f ∙ sym (words-split ∙ ap (λ x. not (not x && allBelow p r)) h)
+-- the number
 
 module _ (p n number : ℕ) (t1 t2 s r : List ℕ) (e : number ≡ refuseSent p n (t1 ∷ t2 ∷ s ∷ r ∷ []) (t1 ∷ t2 ∷ s ∷ r ∷ []) 0) where
   pub check-refused : (number ≡ 0 → ⊥) → number ≡ checkNumber p n t1 t2 s r
-  unfolding checkNumber
+  unfolding checkNumberOr
   check-refused h = sent-stays p n (t1 ∷ t2 ∷ s ∷ r ∷ []) (t1 ∷ t2 ∷ s ∷ r ∷ []) _ number e h
 
   module _ (h : number ≡ 0) where
@@ -76,7 +58,7 @@ module _ (p n number : ℕ) (t1 t2 s r : List ℕ) (e : number ≡ refuseSent p 
 
     module _ (b : Bool) (f : b ≡ accepts p t1 t2 s r) where
       decided : checkNumber p n t1 t2 s r ≡ refuse 8 (not b) 0
-      unfolding checkNumber
+      unfolding checkNumberOr
       decided = given-sent p n (t1 ∷ t2 ∷ s ∷ r ∷ []) (t1 ∷ t2 ∷ s ∷ r ∷ []) _ sent ∙ ap (λ x. refuse 8 (not x) 0) (sym f)
 
       pub check-accepted : b ≡ true → 0 ≡ checkNumber p n t1 t2 s r

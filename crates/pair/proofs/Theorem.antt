@@ -4,14 +4,14 @@ use mathlib.Core.Bool.{not}
 use mathlib.Core.List.{[], _∷_}
 use Rattle.refusal.specs.Refusal.{refuse}
 use Rattle.refusal.proofs.Refusal.{refuse-none, sent-given, given-sent}
-use Rattle.pair.specs.Pair.{Congruences, accepts, checkNumber}
+use Rattle.pair.specs.Pair.{Congruences, accepts, checkNumberOr}
 use Rattle.pair.specs.Theorem.{Given, CheckerTheorem}
 use Rattle.pair.proofs.Accepts.{accepts-congruences, congruences-accepted, isomorphisms-accepted}
 use Rattle.pair.proofs.Refusals.{given, all-sent}
 use borrow.Author.Tests.{not-false}
 
 pub checker-theorem : CheckerTheorem
-unfolding checkNumber
+unfolding checkNumberOr
 checker-theorem p n t1 t2 s r = (
   λ h.
       let (sent, end) = sent-given p n (t1 ∷ t2 ∷ s ∷ r ∷ []) (t1 ∷ t2 ∷ s ∷ r ∷ []) _ h in

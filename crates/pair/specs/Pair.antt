@@ -3,14 +3,16 @@
 --   backward p t1 r u            the backward map sends u to u(R) mod T1
 --   Congruences p t1 t2 s r      T1(S) = 0 mod T2, T2(R) = 0 mod T1, S(R) = X mod T1, R(S) = X mod T2
 --   accepts p t1 t2 s r          the same four as a test
+--   refusePair p t1 t2 s r       what comes after 4 for a pair: 8 where a congruence fails, else 0
 --   checkNumber p n t1 t2 s r    the checker's answer: 1, 2, 3, 4, 8, or 0 where it accepts
+--   checkNumberOr b p n t1 t2 s r   the same where 3 also covers b: an output list has not its exact length
 use mathlib.Core.Path.{_≡_}
-use mathlib.Core.Bool.{Bool, _&&_, not}
+use mathlib.Core.Bool.{Bool, false, _&&_, not}
 use mathlib.Core.List.{List, [], _∷_}
 use Prim.Native.Nat.{ℕ}
 use lib.ListN.{length}
 use Rattle.algebra.specs.Lists.{equal}
-use Rattle.refusal.specs.Refusal.{refuse, refuseSent}
+use Rattle.refusal.specs.Refusal.{refuse, refuseSentOr}
 use Rattle.quotient.specs.Residue.{constant, residueOfX, substitute, modulusAt}
 
 unfoldable pub forward : ℕ → List ℕ → List ℕ → List ℕ → List ℕ
@@ -32,6 +34,11 @@ accepts p t1 t2 s r =
     && equal (substitute p t1 r s) (residueOfX p t1)
     && equal (substitute p t2 s r) (residueOfX p t2)
 
-unfoldable pub checkNumber : ℕ → ℕ → List ℕ → List ℕ → List ℕ → List ℕ → ℕ
-checkNumber p n t1 t2 s r =
-    refuseSent p n (t1 ∷ t2 ∷ s ∷ r ∷ []) (t1 ∷ t2 ∷ s ∷ r ∷ []) (refuse 8 (not (accepts p t1 t2 s r)) 0)
+abbrev pub refusePair : ℕ → List ℕ → List ℕ → List ℕ → List ℕ → ℕ
+refusePair p t1 t2 s r = refuse 8 (not (accepts p t1 t2 s r)) 0
+
+unfoldable pub checkNumberOr : Bool → ℕ → ℕ → List ℕ → List ℕ → List ℕ → List ℕ → ℕ
+checkNumberOr b p n t1 t2 s r = refuseSentOr b p n (t1 ∷ t2 ∷ s ∷ r ∷ []) (t1 ∷ t2 ∷ s ∷ r ∷ []) (refusePair p t1 t2 s r)
+
+abbrev pub checkNumber : ℕ → ℕ → List ℕ → List ℕ → List ℕ → List ℕ → ℕ
+checkNumber p n t1 t2 s r = checkNumberOr false p n t1 t2 s r

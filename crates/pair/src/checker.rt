@@ -1,40 +1,34 @@
 // The checker: the refusals of a pair, in the order of document 01, and the answer.
 use crate::congruence::accepts;
-use arithmetic::refusal::bad_degree;
-use arithmetic::refusal::bad_length;
-use arithmetic::refusal::bad_word;
-use arithmetic::refusal::first;
 use array::Word;
 use array::copy::load;
-use array::list::below;
 use modular::prime::is_prime;
+use refusal::sent::has_length;
+use refusal::sent::has_words;
+use refusal::sent::is_degree;
+use refusal::sent::number;
 ghost use mathlib.Core.Path.{_≡_};
 ghost use mathlib.Core.List.{[], _∷_};
-ghost use Rattle.refusal.specs.Refusal.{refuseSent, badWord};
+ghost use Rattle.refusal.specs.Refusal.{refuseSent};
 ghost use Rattle.pair.specs.Pair.{accepts as acceptsPair, checkNumber};
 ghost use Rattle.pair.specs.Theorem.{Given};
 
-// Whether a word is p or more.
-fn bad_words(p: u32, t1: &[Word], t2: &[Word], s: &[Word], r: &[Word]) -> bool
-    ensures { λ b. ⌜ b ≡ badWord p (now (t1 .entry) ∷ now (t2 .entry) ∷ now (s .entry) ∷ now (r .entry) ∷ []) ⌝ }
-{
-    if bad_word(p, t1, t2, s) {
-        return true;
-    }
-    !below(p, r)
-}
-
-// The number of the first refusal but 8 that applies, 0 where none does.
+// The number of the first refusal from 1 to 4 that applies, 0 where none does.
 fn refusal(p: u32, n: u32, t1: &[Word], t2: &[Word], s: &[Word], r: &[Word]) -> u32
     ensures { λ number. ⌜ number ≡ refuseSent p n (now (t1 .entry) ∷ now (t2 .entry) ∷ now (s .entry) ∷ now (r .entry) ∷ [])
         (now (t1 .entry) ∷ now (t2 .entry) ∷ now (s .entry) ∷ now (r .entry) ∷ []) 0 ⌝ }
 {
-    first(
-        !is_prime(p),
-        bad_degree(n),
-        bad_length(n, t2, s, r, t1),
-        bad_words(p, t1, t2, s, r),
-    )
+    let lengths = has_length(
+        n,
+        t1,
+        has_length(n, t2, has_length(n, s, has_length(n, r, true))),
+    );
+    let words = has_words(
+        p,
+        t1,
+        has_words(p, t2, has_words(p, s, has_words(p, r, true))),
+    );
+    number(is_prime(p), is_degree(n), lengths, words)
 }
 
 // Whether the four congruences hold, for lists to which no other refusal applies.

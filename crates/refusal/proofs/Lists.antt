@@ -1,5 +1,8 @@
--- What it means that a refusal of the lists does not apply (document 01, "Caused by what was sent"): every list is n words below p.
---   words-given, given-lengths, given-words   3 and 4 do not apply exactly to lists of n words below p
+-- What it means that 3 and 4 do not apply to lists (document 01, "Caused by what was sent").
+--   words-of, words-below          a list of n words below p is one of length n whose words are below p
+--   lengths-given, given-lengths   3 does not apply exactly to lists of length n
+--   below-given, given-below       4 does not apply exactly to lists of words below p
+--   words-given, given-words       both, to lists of n words below p
 use mathlib.Core.Path.{_≡_, refl, ap, ap₂, subst}
 use mathlib.Core.Bool.{true, false, not, _&&_, and-eq-true-iff}
 use mathlib.Core.List.{List, [], _∷_}
@@ -8,50 +11,47 @@ use lib.Dec.{ltb, eqb}
 use lib.ListN.{length}
 use borrow.Author.Tests.{ltb-true, lt-ltb, eqb-true, eq-eqb, not-false}
 use Rattle.algebra.specs.Lists.{All, all}
+use Rattle.algebra.proofs.Lists.{all-member, member-all}
+use Rattle.algebra.proofs.Search.{member-of-all, all-of-members}
 use Rattle.array.specs.Words.{allBelow, Words, none, more}
 use Rattle.refusal.specs.Refusal.{badLength, badWord}
-use Rattle.array.proofs.Words.{words-length}
 
 -- one list
 
-words-of : (p n : ℕ) (xs : List ℕ) → length xs ≡ n → allBelow p xs ≡ true → Words p n xs
+pub words-of : (p n : ℕ) (xs : List ℕ) → length xs ≡ n → allBelow p xs ≡ true → Words p n xs
 unfolding allBelow all
 words-of p n [] e h = subst (λ k. Words p k []) e none
 words-of p n (a ∷ xs) e h =
     let parts = and-eq-true-iff (ltb a p) (allBelow p xs) .0 h in
     subst (λ k. Words p k (a ∷ xs)) e (more (ltb-true a p (parts .0)) (words-of p (length xs) xs refl (parts .1)))
 
-words-below : {p n : ℕ} {xs : List ℕ} → Words p n xs → allBelow p xs ≡ true
+pub words-below : {p n : ℕ} {xs : List ℕ} → Words p n xs → allBelow p xs ≡ true
 unfolding allBelow all
 words-below none = refl
 words-below {p} (more {a = a} h w) = ap₂ _&&_ (lt-ltb a p h) (words-below w)
 
 -- a list of lists
 
-all-words : (p n : ℕ) (xss : List (List ℕ)) → all (λ xs. eqb (length xs) n) xss ≡ true → all (allBelow p) xss ≡ true → All (Words p n) xss
-unfolding all
-all-words p n [] h k = tt
-all-words p n (xs ∷ xss) h k =
-    let long = and-eq-true-iff (eqb (length xs) n) (all (λ ys. eqb (length ys) n) xss) .0 h in
-    let low = and-eq-true-iff (allBelow p xs) (all (allBelow p) xss) .0 k in
-    (words-of p n xs (eqb-true (length xs) n (long .0)) (low .0), all-words p n xss (long .1) (low .1))
+pub lengths-given : (n : ℕ) (xss : List (List ℕ)) → badLength n xss ≡ false → All (λ xs. length xs ≡ n) xss
+unfolding badLength
+lengths-given n xss h = member-all (λ xs. length xs ≡ n) xss (λ xs m. eqb-true (length xs) n (member-of-all (λ ys. eqb (length ys) n) xss (not-false _ h) xs m))
+
+pub given-lengths : (n : ℕ) (xss : List (List ℕ)) → All (λ xs. length xs ≡ n) xss → badLength n xss ≡ false
+unfolding badLength
+given-lengths n xss h = ap not (all-of-members (λ ys. eqb (length ys) n) xss (λ xs m. eq-eqb (length xs) n (all-member (λ ys. length ys ≡ n) xss h xs m)))
+
+pub below-given : (p : ℕ) (yss : List (List ℕ)) → badWord p yss ≡ false → All (λ ys. allBelow p ys ≡ true) yss
+unfolding badWord
+below-given p yss h = member-all (λ ys. allBelow p ys ≡ true) yss (member-of-all (allBelow p) yss (not-false _ h))
+
+pub given-below : (p : ℕ) (yss : List (List ℕ)) → All (λ ys. allBelow p ys ≡ true) yss → badWord p yss ≡ false
+unfolding badWord
+given-below p yss h = ap not (all-of-members (allBelow p) yss (all-member (λ ys. allBelow p ys ≡ true) yss h))
 
 pub words-given : (p n : ℕ) (xss : List (List ℕ)) → badLength n xss ≡ false → badWord p xss ≡ false → All (Words p n) xss
-unfolding badLength badWord
-words-given p n xss h k = all-words p n xss (not-false (all (λ xs. eqb (length xs) n) xss) h) (not-false (all (allBelow p) xss) k)
-
-pub given-lengths : (p n : ℕ) (xss : List (List ℕ)) → All (Words p n) xss → badLength n xss ≡ false
-unfolding badLength all
-given-lengths p n xss h = ap not (go xss h)
-  where
-    go : (xss : List (List ℕ)) → All (Words p n) xss → all (λ xs. eqb (length xs) n) xss ≡ true
-    go [] h = refl
-    go (xs ∷ xss) h = ap₂ _&&_ (eq-eqb (length xs) n (words-length (h .0))) (go xss (h .1))
+words-given p n xss h k =
+    member-all (Words p n) xss
+    (λ xs m. words-of p n xs (all-member (λ ys. length ys ≡ n) xss (lengths-given n xss h) xs m) (all-member (λ ys. allBelow p ys ≡ true) xss (below-given p xss k) xs m))
 
 pub given-words : (p n : ℕ) (xss : List (List ℕ)) → All (Words p n) xss → badWord p xss ≡ false
-unfolding badWord all
-given-words p n xss h = ap not (go xss h)
-  where
-    go : (xss : List (List ℕ)) → All (Words p n) xss → all (allBelow p) xss ≡ true
-    go [] h = refl
-    go (xs ∷ xss) h = ap₂ _&&_ (words-below (h .0)) (go xss (h .1))
+given-words p n xss h = given-below p xss (member-all (λ ys. allBelow p ys ≡ true) xss (λ xs m. words-below (all-member (Words p n) xss h xs m)))

@@ -11,9 +11,13 @@ use mathlib.Core.List.{List}
 use Prim.Native.Nat.{ℕ, suc, _≤_}
 use native.Mathlib.Omega.{arith}
 use lib.Dec.{leb}
+use lib.ListN.{length}
 use borrow.Author.Tests.{leb-true, le-leb, not-false}
 use Rattle.algebra.specs.Prime.{Prime}
 use Rattle.modular.specs.Prime.{isPrime}
+use Rattle.algebra.specs.Lists.{All}
+use Rattle.array.specs.Words.{allBelow}
+use Rattle.refusal.proofs.Lists.{lengths-given, given-lengths, below-given, given-below}
 use Rattle.refusal.specs.Refusal.{refuse, refuseSent, badPrime, isDegree, badDegree, badLength, badWord}
 use Rattle.modular.proofs.IsPrime.{prime-of-test, test-of-prime}
 
@@ -47,8 +51,8 @@ pub record Sent (p n : ℕ) (xss yss : List (List ℕ)) : Type 0 where
   pub small : p ≤ 65535
   pub low : 1 ≤ n
   pub high : n ≤ 16
-  pub lengths : badLength n xss ≡ false
-  pub words : badWord p yss ≡ false
+  pub lengths : All (λ xs. length xs ≡ n) xss
+  pub below : All (λ ys. allBelow p ys ≡ true) yss
 
 module _ (p n : ℕ) (xss yss : List (List ℕ)) (rest : ℕ) where
   pub sent-given : refuseSent p n xss yss rest ≡ 0 → Sent p n xss yss × (rest ≡ 0)
@@ -62,14 +66,14 @@ module _ (p n : ℕ) (xss yss : List (List ℕ)) (rest : ℕ) where
           small = prime-given p prime .1;
           low = degree-given n degree .0;
           high = degree-given n degree .1;
-          lengths = lengths;
-          words = words;
+          lengths = lengths-given n xss lengths;
+          below = below-given p yss words;
         },
         end,
       )
 
   pub given-sent : Sent p n xss yss → refuseSent p n xss yss rest ≡ rest
-  given-sent h = rw (given-prime p (h .prime) (h .small), given-degree n (h .low) (h .high), h .lengths, h .words)
+  given-sent h = rw (given-prime p (h .prime) (h .small), given-degree n (h .low) (h .high), given-lengths n xss (h .lengths), given-below p yss (h .below))
 
   pub sent-stays : (number : ℕ) → number ≡ refuseSent p n xss yss 0 → (number ≡ 0 → ⊥) → number ≡ refuseSent p n xss yss rest
   sent-stays number e h = e ∙ go (badPrime p) (badDegree n) (badLength n xss) (badWord p yss) (λ z. h (e ∙ z))

@@ -7,7 +7,7 @@ use Prim.Native.Nat.{ℕ, _-_, _≤_}
 use native.Mathlib.Omega.{arith}
 use lib.ListN.{length, take, length-append}
 use lib.Seq.{take-at}
-use Rattle.finder.specs.Finder.{findS, findR, pairNumber, findNumber, findOutputS, findOutputR}
+use Rattle.finder.specs.Finder.{findS, findR, refuseFind, findNumber, findOutputS, findOutputR}
 use Rattle.refusal.specs.Models.{Models}
 use Rattle.refusal.specs.Refusal.{written}
 use Rattle.pair.proofs.Theorem.{checker-theorem}
@@ -26,7 +26,7 @@ use Rattle.session.proofs.Valid.{valid-given, valid-degree, front-lengt
 
 -- the finder's pair in two lists, where 5, 6 and 7 do not apply
 pub record Found (p n : ℕ) (t1 t2 s r : List ℕ) : Type 0 where
-  pub accepted : pairNumber p n t1 t2 ≡ 0
+  pub accepted : refuseFind p n t1 t2 ≡ 0
   pub s-is : s ≡ findS p n t1 t2
   pub r-is : r ≡ findR p n t1 t2
   pub s-length : length s ≡ n
@@ -47,7 +47,7 @@ module _ (p n : ℕ) (t1 t2 : List ℕ) (l1 : length t1 ≡ 16) (l2 : length t2 
 
   -- the finder's number is that of the session's call
   number : ℕ
-  number = pairNumber p n (take n t1) (take n t2)
+  number = refuseFind p n (take n t1) (take n t2)
 
   number-is : (s r : List ℕ) → length s ≡ 16 → length r ≡ 16 → findNumber p n (take n t1) (take n t2) (take n s) (take n r) ≡ number
   unfolding findNumber number

@@ -10,7 +10,7 @@ use native.Mathlib.Omega.{arith}
 use borrow.Author.Tests.{not-false}
 use lib.ListN.{take, replicate}
 use Rattle.algebra.specs.Lists.{All}
-use Rattle.finder.specs.Finder.{findS, findR, pairNumber, findNumber, findOutputS, findOutputR}
+use Rattle.finder.specs.Finder.{findS, findR, refuseFind, findNumber, findOutputS, findOutputR}
 use Rattle.finder.proofs.Theorem.{demand-3}
 use Rattle.refusal.specs.Refusal.{refuse, refuseSent, badLength, badWord}
 use Rattle.pair.specs.Pair.{accepts, checkNumber}
@@ -109,7 +109,7 @@ propose-reached (is-paired p n t1 t2 u v h) s r = rw (view-paired (paired-given 
 
 -- where 5, 6 and 7 do not apply, the finder answers 0 to two lent lists of n words
 find-answers : {p n : ℕ} {t1 t2 : List ℕ} → Models p n t1 t2
-    → pairNumber p n t1 t2 ≡ 0
+    → refuseFind p n t1 t2 ≡ 0
     → findNumber p n t1 t2 (replicate n 0) (replicate n 0) ≡ 0
 unfolding findNumber
 find-answers {p} {n} {t1} {t2} m h =
@@ -126,7 +126,7 @@ find-answers {p} {n} {t1} {t2} m h =
     ∙ h
 
 pub found-accepted : {p n : ℕ} {t1 t2 : List ℕ} → Models p n t1 t2
-    → pairNumber p n t1 t2 ≡ 0
+    → refuseFind p n t1 t2 ≡ 0
     → checkNumber p n t1 t2 (findS p n t1 t2) (findR p n t1 t2) ≡ 0
 unfolding findOutputS findOutputR
 found-accepted {p} {n} {t1} {t2} m h =

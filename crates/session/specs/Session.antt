@@ -16,7 +16,7 @@ use mathlib.Core.List.{List, [], _∷_, _++_}
 use Prim.Native.Nat.{ℕ, zero, suc, _/_, _%_}
 use lib.Dec.{ltb, eqb}
 use lib.ListN.{length, take, drop, replicate}
-use Rattle.finder.specs.Finder.{findS, findR, pairNumber}
+use Rattle.finder.specs.Finder.{findS, findR, refuseFind}
 use Rattle.refusal.specs.Refusal.{refuse, refuseSent, badPrime, badDegree, badLength, badWord, written}
 use Rattle.pair.specs.Pair.{accepts}
 use Rattle.quotient.specs.Residue.{substitute}
@@ -96,7 +96,7 @@ propose x s r = proposeFrom (view x) x s r
 unfoldable pub findFrom : View → Session → Step
 findFrom empty x = answer 21 x x
 findFrom (loaded p n t1 t2) x =
-    answer (pairNumber p n t1 t2) (pairedSession p n t1 t2 (findS p n t1 t2) (findR p n t1 t2)) x
+    answer (refuseFind p n t1 t2) (pairedSession p n t1 t2 (findS p n t1 t2) (findR p n t1 t2)) x
 findFrom (paired p n t1 t2 s r) x = answer 24 x x
 
 unfoldable pub find : Session → Step

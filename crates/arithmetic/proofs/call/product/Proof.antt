@@ -4,8 +4,8 @@ use Rattle.refusal.proofs.Written.{output-new, output-old}
 use Rattle.arithmetic.proofs.call.product.Statement.{statement}
 use Rattle.arithmetic.proofs.call.product.Tie as tie
 
-number-requires : tie.Need-number-requires
-number-requires c κs = search needs
+of-three-requires : tie.Need-of-three-requires
+of-three-requires c κs = search needs
 
 write-product-requires : tie.Need-write-product-requires
 write-product-requires c κs = cc
@@ -25,4 +25,4 @@ returns-2 c = (search needs, search output-old)
 pub product-spec : {M : Type 1} → statement M
 product-spec =
     tie.close
-    (tie.spec number-requires write-product-requires same-length returns same-length-2 returns-2)
+    (tie.spec of-three-requires write-product-requires same-length returns same-length-2 returns-2)

@@ -4,8 +4,8 @@ use Rattle.refusal.proofs.Written.{output-new, output-old}
 use Rattle.arithmetic.proofs.call.substitute.Statement.{statement}
 use Rattle.arithmetic.proofs.call.substitute.Tie as tie
 
-number-requires : tie.Need-number-requires
-number-requires c κs = search needs
+of-three-requires : tie.Need-of-three-requires
+of-three-requires c κs = search needs
 
 write-substitute-requires : tie.Need-write-substitute-requires
 write-substitute-requires c κs = cc
@@ -25,4 +25,4 @@ returns-2 c = (search needs, search output-old)
 pub substitute-spec : {M : Type 1} → statement M
 substitute-spec =
     tie.close
-    (tie.spec number-requires write-substitute-requires same-length returns same-length-2 returns-2)
+    (tie.spec of-three-requires write-substitute-requires same-length returns same-length-2 returns-2)

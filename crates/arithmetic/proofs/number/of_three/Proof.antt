@@ -36,7 +36,7 @@ number-requires : tie.Need-number-requires
 number-requires c κs = search needs
 
 returns : tie.Need-returns
-returns c = number-is _ _ _ _ _ (search (sent-number, lengths-none, lengths-next, words-none, words-next))
+returns c = number-is _ _ _ _ _ (search (sent-number, lengths-none, lengths-next, words-none, words-next) depth 8)
 
 pub of-three-spec : {M : Type 1} → statement M
 of-three-spec =

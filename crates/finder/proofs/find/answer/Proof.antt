@@ -10,11 +10,11 @@ load-requires c κs = search first-short
 load-requires-2 : tie.Need-load-requires-2
 load-requires-2 c κs = search second-short
 
-find-pair-requires : tie.Need-find-pair-requires
-find-pair-requires c κs = (search needs, (search needs, (search first-holds, search second-holds)))
+construct-requires : tie.Need-construct-requires
+construct-requires c κs = (search needs, (search needs, (search first-holds, search second-holds)))
 
 returns : tie.Need-returns
 returns c = search answer-is
 
 pub answer-spec : {M : Type 1} → statement M
-answer-spec = tie.close (tie.spec load-requires load-requires-2 find-pair-requires returns)
+answer-spec = tie.close (tie.spec load-requires load-requires-2 construct-requires returns)

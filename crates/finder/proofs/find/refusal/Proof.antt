@@ -1,35 +1,50 @@
--- `refusal` meets its contract: the first condition that applies gives the number.
+-- The tests of the lists, one after another, say what the conditions of 3 and 4 say of all of them.
 use borrow.Author.Needs.{needs}
-use Rattle.arithmetic.proofs.Refusals.{first-is}
-use Rattle.finder.proofs.FindAnswer.{refusal-is}
+use Rattle.refusal.proofs.Tests.{sent-number, lengths-none, lengths-next, words-none, words-next}
 use Rattle.finder.proofs.find.refusal.Statement.{statement}
 use Rattle.finder.proofs.find.refusal.Tie as tie
+
+has-length-requires : tie.Need-has-length-requires
+has-length-requires c κs = search needs
+
+has-length-requires-2 : tie.Need-has-length-requires-2
+has-length-requires-2 c κs = search needs
+
+has-length-requires-3 : tie.Need-has-length-requires-3
+has-length-requires-3 c κs = search needs
+
+has-length-requires-4 : tie.Need-has-length-requires-4
+has-length-requires-4 c κs = search needs
+
+has-words-requires : tie.Need-has-words-requires
+has-words-requires c κs = search needs
+
+has-words-requires-2 : tie.Need-has-words-requires-2
+has-words-requires-2 c κs = search needs
 
 is-prime-requires : tie.Need-is-prime-requires
 is-prime-requires c κs = search needs
 
-bad-degree-requires : tie.Need-bad-degree-requires
-bad-degree-requires c κs = search needs
+is-degree-requires : tie.Need-is-degree-requires
+is-degree-requires c κs = search needs
 
-bad-length-requires : tie.Need-bad-length-requires
-bad-length-requires c κs = search needs
-
-bad-word-requires : tie.Need-bad-word-requires
-bad-word-requires c κs = search needs
-
-first-requires : tie.Need-first-requires
-first-requires c κs = search needs
+number-requires : tie.Need-number-requires
+number-requires c κs = search needs
 
 returns : tie.Need-returns
-returns c = refusal-is _ _ _ _ _ _ (search first-is)
+returns c = search (sent-number, lengths-none, lengths-next, words-none, words-next) depth 8
 
 pub refusal-spec : {M : Type 1} → statement M
 refusal-spec =
     tie.close
     (tie.spec
+    has-length-requires
+    has-length-requires-2
+    has-length-requires-3
+    has-length-requires-4
+    has-words-requires
+    has-words-requires-2
     is-prime-requires
-    bad-degree-requires
-    bad-length-requires
-    bad-word-requires
-    first-requires
+    is-degree-requires
+    number-requires
     returns)

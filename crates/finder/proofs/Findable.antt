@@ -1,0 +1,38 @@
+-- The test `findable`, what 5 to 7 leave, and the finder's number for two models.
+use mathlib.Core.Path.{_≡_}
+use mathlib.Core.Bool.{true, false, not}
+use mathlib.Core.List.{List, [], _∷_}
+use Prim.Native.Nat.{ℕ, _-_, _%_}
+use borrow.Author.Tests.{eq-eqb, ne-eqb, eqb-true, not-false}
+use lib.ListN.{length}
+use Rattle.quotient.specs.DivisorTest.{hasDivisor}
+use Rattle.refusal.specs.Models.{Models}
+use Rattle.refusal.proofs.Refusal.{refuse-none, given-sent}
+use Rattle.refusal.proofs.TwoModels.{models-sent}
+use Rattle.finder.specs.Finder.{Findable, findable, refuseFind, findNumber}
+
+pub findable-true : (p n : ℕ) → Findable p n → findable p n ≡ true
+unfolding findable
+findable-true p n h = eq-eqb ((p - 1) % n) 0 h
+
+pub findable-false : (p n : ℕ) → (Findable p n → ⊥) → findable p n ≡ false
+unfolding findable
+findable-false p n h = ne-eqb ((p - 1) % n) 0 h
+
+pub true-findable : (p n : ℕ) → findable p n ≡ true → Findable p n
+unfolding findable
+true-findable p n h = eqb-true ((p - 1) % n) 0 h
+
+pub none-apply : (p n : ℕ) (t1 t2 : List ℕ) → refuseFind p n t1 t2 ≡ 0 → Findable p n × (hasDivisor p t1 ≡ false) × (hasDivisor p t2 ≡ false)
+none-apply p n t1 t2 h =
+    let (degree, h6) = refuse-none 4 (not (findable p n)) _ h in
+    let (first, h7) = refuse-none 5 (hasDivisor p t1) _ h6 in
+    let (second, _) = refuse-none 6 (hasDivisor p t2) 0 h7 in
+    (true-findable p n (not-false (findable p n) degree), first, second)
+
+-- to two models, and lists of n words, 1 to 4 do not apply
+pub find-models : (p n : ℕ) (t1 t2 : List ℕ) → Models p n t1 t2 → (lentS lentR : List ℕ) → length lentS ≡ n → length lentR ≡ n
+    → findNumber p n t1 t2 lentS lentR ≡ refuseFind p n t1 t2
+unfolding findNumber
+find-models p n t1 t2 m lentS lentR s r =
+    given-sent p n (t1 ∷ t2 ∷ lentS ∷ lentR ∷ []) (t1 ∷ t2 ∷ []) _ (models-sent p n t1 t2 (lentS ∷ lentR ∷ []) m (s, (r, tt)))

@@ -1,0 +1,32 @@
+-- To two models, and to any lists of n words, 1 to 4 do not apply; and to what they do not apply are two models.
+use mathlib.Core.Path.{_≡_}
+use mathlib.Core.List.{List, [], _∷_}
+use Prim.Native.Nat.{ℕ}
+use lib.ListN.{length}
+use Rattle.algebra.specs.Lists.{All}
+use Rattle.array.proofs.Words.{words-length}
+use Rattle.refusal.specs.Models.{Models}
+use Rattle.refusal.proofs.Lists.{words-of, words-below}
+use Rattle.refusal.proofs.Refusal.{Sent}
+
+module _ (p n : ℕ) (t1 t2 : List ℕ) (xss : List (List ℕ)) where
+  pub models-sent : Models p n t1 t2 → All (λ xs. length xs ≡ n) xss → Sent p n (t1 ∷ t2 ∷ xss) (t1 ∷ t2 ∷ [])
+  models-sent m lengths =
+      record {
+        prime = m .prime;
+        small = m .small;
+        low = m .degree .0;
+        high = m .degree .1;
+        lengths = (words-length (m .modulus1), (words-length (m .modulus2), lengths));
+        below = (words-below (m .modulus1), (words-below (m .modulus2), tt));
+      }
+
+  pub sent-models : (yss : List (List ℕ)) → Sent p n (t1 ∷ t2 ∷ xss) (t1 ∷ t2 ∷ yss) → Models p n t1 t2
+  sent-models yss h =
+      record {
+        prime = h .prime;
+        small = h .small;
+        degree = (h .low, h .high);
+        modulus1 = words-of p n t1 (h .lengths .0) (h .below .0);
+        modulus2 = words-of p n t2 (h .lengths .1 .0) (h .below .1 .0);
+      }
