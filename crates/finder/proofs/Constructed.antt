@@ -22,9 +22,9 @@ use Rattle.galois.specs.Express.{express, Independent}
 use Rattle.finder.specs.Finder.{findS, findR, refuseFind}
 use Rattle.frobenius.specs.Kernel.{AlphaFound}
 use Rattle.galois.proofs.Express.{express-is}
-use Rattle.galois.proofs.KernelDecides.{alpha-words, alpha-powers, alpha-power}
+use Rattle.galois.proofs.KernelDecides.{test-irreducible, EigenvectorLaws, eigenvector-laws}
 use Rattle.finder.proofs.Findable.{findable-true, findable-false}
-use Rattle.finder.proofs.Values.{root-of-ratio-smallest, find-s-independent}
+use Rattle.finder.proofs.Values.{PairLaws, pair-laws}
 use Rattle.roots.proofs.Zeta as Zeta
 use Rattle.frobenius.proofs.KernelAnswer.{not-not}
 
@@ -41,6 +41,9 @@ module _ (p n : ℕ) (h : Admissible p n) where
   zeta-order : OrderModulo p n (zeta p n)
   zeta-order = Zeta.zeta-is p n (h .prime) (h .low) (h .high) (h .divides) .2
 
+  laws : EigenvectorLaws p n
+  laws = eigenvector-laws p (h .prime) n (h .low)
+
   pub zeta-has-order : (z : ℕ) → z ≡ zeta p n → OrderModulo p n z
   zeta-has-order z e = subst (OrderModulo p n) (sym e) zeta-order
 
@@ -56,10 +59,10 @@ module _ (p n : ℕ) (t1 t2 : List ℕ) (h : Admissible p n) (h1 : Holds p n t1)
   z = zeta p n
 
   words1 : Words p n (alpha p T1 z)
-  words1 = alpha-words p (h .prime) n T1 (h .low) (h1 .words) z (zeta-order p n h) (e .irreducible1)
+  words1 = laws p n h .alpha-words T1 (h1 .words) z (zeta-order p n h) (e .irreducible1)
 
   words2 : Words p n (alpha p T2 z)
-  words2 = alpha-words p (h .prime) n T2 (h .low) (h2 .words) z (zeta-order p n h) (e .irreducible2)
+  words2 = laws p n h .alpha-words T2 (h2 .words) z (zeta-order p n h) (e .irreducible2)
 
   pub alpha1-holds : Holds p n x
   alpha1-holds = holds-is (e .alpha1-is) words1
@@ -71,7 +74,7 @@ module _ (p n : ℕ) (t1 t2 : List ℕ) (h : Admissible p n) (h1 : Holds p n t1)
   front1 = front-is (e .alpha1-is) words1
 
   pub alpha1-independent : Independent p n T1 (take n x)
-  alpha1-independent = subst (Independent p n T1) (sym front1) (alpha-powers p (h .prime) n T1 (h .low) (h1 .words) z (zeta-order p n h) (e .irreducible1))
+  alpha1-independent = subst (Independent p n T1) (sym front1) (laws p n h .alpha-powers T1 (h1 .words) z (zeta-order p n h) (e .irreducible1))
 
   express-words : Words p n (express p T1 (take n x))
   express-words = express-is (h .prime .0) (h1 .words) (alpha1-holds .words) alpha1-independent .0
@@ -121,15 +124,15 @@ module _ (p n z : ℕ) (t1 t2 : List ℕ) (h : Admissible p n) (zeta-is : z ≡ 
   root-of-ratio-exists : Words p n t1 → Words p n t2 → Solvable p n a b
   root-of-ratio-exists w1 w2 =
       let order : OrderModulo p n z = zeta-has-order p n h z zeta-is in
-      let (_, pos1, below1) = alpha-power p (h .prime) n t1 (h .low) w1 z order (divisor-of answer1) in
-      let (_, pos2, below2) = alpha-power p (h .prime) n t2 (h .low) w2 z order (divisor-of answer2) in
+      let (pos1, below1) = laws p n h .alpha-power t1 w1 z order (divisor-of answer1) in
+      let (pos2, below2) = laws p n h .alpha-power t2 w2 z order (divisor-of answer2) in
       subst₂ (Solvable p n) (sym (answer1 .constant-is refl)) (sym (answer2 .constant-is refl))
       (record {
         positive1 = pos1;
         positive2 = pos2;
         below1 = below1;
         below2 = below2;
-        smallest = root-of-ratio-smallest p (h .prime) n t1 t2 (h .low) (h .divides) w1 w2 z (subst (λ k. k < p) (sym zeta-is) (zeta-small p n h)) order (divisor-of answer1) (divisor-of answer2);
+        smallest = pair-laws p (h .prime) n (h .low) (h .high) t1 t2 w1 w2 .ratio-smallest (h .divides) z (subst (λ k. k < p) (sym zeta-is) (zeta-small p n h)) order (divisor-of answer1) (divisor-of answer2);
       })
 
   pub choices : (c : ℕ) → c ≡ rootOfRatio p n a b → c < p → Choices p n t1 t2 c x y
@@ -150,7 +153,9 @@ module _ (p n z : ℕ) (t1 t2 : List ℕ) (h : Admissible p n) (h1 : Holds p n t
     (answer1 : AlphaFound p n (take n t1) z true x a) (answer2 : AlphaFound p n (take n t2) z true y b) (s : List ℕ) (es : s ≡ padded (findS p n (take n t1) (take n t2))) where
   independent : Words p n (findS p n (take n t1) (take n t2)) × Independent p n (take n t2) (findS p n (take n t1) (take n t2))
   independent =
-      find-s-independent p (h .prime) n (take n t1) (take n t2) (h .low) (h .high) (h .divides) (h1 .words) (h2 .words) (divisor-of answer1) (divisor-of answer2)
+      let laws : PairLaws p n (take n t1) (take n t2) = pair-laws p (h .prime) n (h .low) (h .high) (take n t1) (take n t2) (h1 .words) (h2 .words) in
+      let chosen = laws .chosen (h .divides) (test-irreducible p (h .prime) (h1 .words) (divisor-of answer1)) (test-irreducible p (h .prime) (h2 .words) (divisor-of answer2)) in
+      (laws .words chosen .0, laws .independent chosen)
 
   pub forward-holds : Holds p n s
   forward-holds = holds-is es (independent .0)

@@ -18,13 +18,13 @@ use Rattle.quotient.proofs.Field.{residueField}
 use Rattle.quotient.proofs.Reduction.{characteristic, zero-is, scale-is}
 use Rattle.quotient.proofs.Ring.{residueRing}
 use Rattle.quotient.proofs.Substitution.{Homomorphism, homomorphism-zero, evaluate-homomorphism, modulusAt-is, substitute-is}
-use Rattle.quotient.proofs.Operations.{residue-path, scale-words, constant-words, substitute-words}
+use Rattle.quotient.proofs.Operations.{residue-path, scale-words, constant-words, substitute-words, constant-length}
 use Rattle.roots.specs.Roots.{OrderModulo}
 use Rattle.galois.specs.Express.{Independent}
 use Rattle.galois.proofs.Irreducible.{kernel-independent}
 use Rattle.galois.proofs.KernelVector.{KernelVector}
 use Rattle.galois.proofs.NoDivisor.{constant-positive, no-divisor}
-use Rattle.galois.proofs.ResidueConstants.{ring-proper, constant-length, constant-is-word, evaluate-constant, power-numeral}
+use Rattle.galois.proofs.ResidueConstants.{ring-proper, constant-is-word, evaluate-constant, power-numeral}
 use Rattle.galois.proofs.Transfer.{transfer-root}
 use Rattle.roots.proofs.Zeta.{numeral-power}
 
@@ -54,7 +54,7 @@ module _ {p n : ℕ} {t : List ℕ} (prime : Prime p) (wt : Words p (suc n) t) w
       let total : a + (p - a) ≡ p = omega arith in
       modulusAt-is (prime .0) wt v q
       ∙ ap (λ u. u .0) (evaluate-monic K p (characteristic (prime .0) wt) v q
-      ∙ ap₂ (K .add) (ap (Ring.power K v) (constant-length n (p - a)) ∙ e) (evaluate-constant K n (p - a) v)
+      ∙ ap₂ (K .add) (ap (Ring.power K v) (constant-length (suc n) (p - a)) ∙ e) (evaluate-constant K n (p - a) v)
       ∙ sym (numeral-add K a (p - a)) ∙ ap (numeral K) total ∙ characteristic (prime .0) wt)
       ∙ zero-is (prime .0) wt
 

@@ -15,11 +15,10 @@ use Rattle.array.proofs.Words.{words-up}
 use Rattle.array.proofs.Padded.{front-is, holds-is}
 use Rattle.finder.specs.Construct.{FoundPair}
 use Rattle.finder.specs.Finder.{findS, findR, refuseFind, findNumber, findOutputS, findOutputR}
-use Rattle.galois.specs.Express.{Independent}
 use Rattle.refusal.specs.Models.{Models}
-use Rattle.galois.proofs.Express.{express-is}
+use Rattle.galois.proofs.KernelDecides.{test-irreducible}
 use Rattle.finder.proofs.Findable.{none-apply}
-use Rattle.finder.proofs.Values.{find-s-independent}
+use Rattle.finder.proofs.Values.{PairLaws, pair-laws}
 
 -- the arrays that hold the moduli
 
@@ -48,36 +47,33 @@ module _ (p n : ℕ) (t1 t2 : List ℕ) (m : Models p n t1 t2) where
     kept other new old = output-old number number new old refl other
 
     module _ (zero-is : number ≡ 0) where
-      independent : Words p n (findS p n t1 t2) × Independent p n t2 (findS p n t1 t2)
-      independent =
+      words : Words p n (findS p n t1 t2) × Words p n (findR p n t1 t2)
+      words =
           let (divides, first, second) = none-apply p n t1 t2 (sym (found .number-is) ∙ zero-is) in
-          find-s-independent p (m .prime) n t1 t2 (m .degree .0) (m .degree .1) divides (m .modulus1) (m .modulus2) first second
-
-      backward-words : Words p n (findR p n t1 t2)
-      unfolding findR
-      backward-words = express-is (m .prime .0) (m .modulus2) (independent .0) (independent .1) .0
+          let laws : PairLaws p n t1 t2 = pair-laws p (m .prime) n (m .degree .0) (m .degree .1) t1 t2 (m .modulus1) (m .modulus2) in
+          laws .words (laws .chosen divides (test-irreducible p (m .prime) (m .modulus1) first) (test-irreducible p (m .prime) (m .modulus2) second))
 
       module _ (out : List ℕ) (size : length out ≡ n) where
         pub out-short : length out ≤ 16
         out-short = omega (arith, m .degree .1)
 
         stores : (u w : List ℕ) → w ≡ padded u → Words p n u → Holds (2 ^ 16) (length out) w
-        stores u w e words = subst (λ k. Holds (2 ^ 16) k w) (sym size) (holds-is e (words-up (omega (arith, m .small)) words))
+        stores u w e wu = subst (λ k. Holds (2 ^ 16) k w) (sym size) (holds-is e (words-up (omega (arith, m .small)) wu))
 
         stored : (u w : List ℕ) → w ≡ padded u → Words p n u → (out′ : List ℕ) → out′ ≡ take (length out) w → out′ ≡ written number u out
-        stored u w e words out′ h = output-new number number u out out′ refl zero-is (h ∙ ap (λ k. take k w) size ∙ front-is e words)
+        stored u w e wu out′ h = output-new number number u out out′ refl zero-is (h ∙ ap (λ k. take k w) size ∙ front-is e wu)
 
         pub forward-stores : Holds (2 ^ 16) (length out) f
-        forward-stores = stores (findS p n t1 t2) f (found .forward-is zero-is) (independent .0)
+        forward-stores = stores (findS p n t1 t2) f (found .forward-is zero-is) (words .0)
 
         pub forward-stored : (out′ : List ℕ) → out′ ≡ take (length out) f → out′ ≡ written number (findS p n t1 t2) out
-        forward-stored = stored (findS p n t1 t2) f (found .forward-is zero-is) (independent .0)
+        forward-stored = stored (findS p n t1 t2) f (found .forward-is zero-is) (words .0)
 
         pub backward-stores : Holds (2 ^ 16) (length out) g
-        backward-stores = stores (findR p n t1 t2) g (found .backward-is zero-is) backward-words
+        backward-stores = stores (findR p n t1 t2) g (found .backward-is zero-is) (words .1)
 
         pub backward-stored : (out′ : List ℕ) → out′ ≡ take (length out) g → out′ ≡ written number (findR p n t1 t2) out
-        backward-stored = stored (findR p n t1 t2) g (found .backward-is zero-is) backward-words
+        backward-stored = stored (findR p n t1 t2) g (found .backward-is zero-is) (words .1)
 
 -- the call
 

@@ -7,7 +7,7 @@ use mathlib.Core.Path.{_≡_, refl, sym, ap, subst₂, _∙_}
 use mathlib.Core.Bool.{Bool, true, false}
 use mathlib.Core.List.{List, [], _∷_}
 use mathlib.Core.Logic.{_↔_}
-use Prim.Native.Nat.{ℕ, zero, suc}
+use Prim.Native.Nat.{ℕ}
 use native.Mathlib.Omega.{arith}
 use lib.ListN.{length}
 use Rattle.refusal.specs.Refusal.{refuse, written}
@@ -20,7 +20,7 @@ use Rattle.refusal.proofs.Refusal.{sent-given}
 use Rattle.quotient.proofs.Decision.{test-has-divisor, has-divisor-test}
 use Rattle.finder.specs.Finder.{Findable, refuseFind, findS, findR, findNumber, findOutputS, findOutputR}
 use Rattle.finder.specs.Theorem.{ChosenPair, Demand3Theorem}
-use Rattle.finder.proofs.ChosenPair.{chosen-words, chosen-congruences, chosen-unique, found-chosen}
+use Rattle.finder.proofs.Values.{PairLaws, pair-laws}
 use Rattle.finder.proofs.Findable.{findable-true, none-apply, find-models}
 use Rattle.galois.proofs.KernelDecides.{test-irreducible, irreducible-test}
 
@@ -76,32 +76,24 @@ module _ (p n : ℕ) (t1 t2 : List ℕ) (models : Models p n t1 t2) (lentS lentR
       λ d. decided ∙ rw (none1 (d .0), has-divisor-test (models .prime .0) (models .modulus2) (d .1)),
     )
 
--- the pair that is found is chosen, and the checker accepts it
-found-accepted : (p n : ℕ) (t1 t2 : List ℕ) → Models p n t1 t2 → Findable p n → (HasDivisor p t1 → ⊥) → (HasDivisor p t2 → ⊥)
-    → ChosenPair p n t1 t2 (findS p n t1 t2) (findR p n t1 t2) × (checkNumber p n t1 t2 (findS p n t1 t2) (findR p n t1 t2) ≡ 0)
-found-accepted p zero t1 t2 models divides irreducible1 irreducible2 = absurd (omega (arith, models .degree))
-found-accepted p (suc n) t1 t2 models divides irreducible1 irreducible2 =
-    let h : ChosenPair p (suc n) t1 t2 (findS p (suc n) t1 t2) (findR p (suc n) t1 t2) =
-    found-chosen (models .prime) (models .degree .1) divides (models .modulus1) (models .modulus2) irreducible1 irreducible2 in (
-      h,
-      checker-theorem p (suc n) t1 t2 (findS p (suc n) t1 t2) (findR p (suc n) t1 t2) .1
-          record {
-            models = models;
-            words-s = chosen-words (models .prime) (models .modulus1) (models .modulus2) h;
-            words-r = h .r-is .0;
-          }
-          (chosen-congruences (models .prime) (models .modulus1) (models .modulus2) h),
-    )
+module _ (p n : ℕ) (t1 t2 : List ℕ) (models : Models p n t1 t2) where
+  laws : PairLaws p n t1 t2
+  laws = pair-laws p (models .prime) n (models .degree .0) (models .degree .1) t1 t2 (models .modulus1) (models .modulus2)
+
+  -- the pair that is found is chosen, and the checker accepts it
+  found-accepted : Findable p n → (HasDivisor p t1 → ⊥) → (HasDivisor p t2 → ⊥)
+      → ChosenPair p n t1 t2 (findS p n t1 t2) (findR p n t1 t2) × (checkNumber p n t1 t2 (findS p n t1 t2) (findR p n t1 t2) ≡ 0)
+  found-accepted divides irreducible1 irreducible2 =
+      let h : ChosenPair p n t1 t2 (findS p n t1 t2) (findR p n t1 t2) = laws .chosen divides irreducible1 irreducible2 in (
+        h,
+        checker-theorem p n t1 t2 (findS p n t1 t2) (findR p n t1 t2) .1 record { models = models; words-s = laws .words h .0; words-r = laws .words h .1 } (laws .congruences h),
+      )
 
 -- where 5 to 7 do not apply to two models, the checker accepts the pair
 pub accepted-pair : (p n : ℕ) (t1 t2 : List ℕ) → Models p n t1 t2 → refuseFind p n t1 t2 ≡ 0 → checkNumber p n t1 t2 (findS p n t1 t2) (findR p n t1 t2) ≡ 0
 accepted-pair p n t1 t2 models h =
     let (divides, first, second) = none-apply p n t1 t2 h in
     found-accepted p n t1 t2 models divides (test-irreducible p (models .prime) (models .modulus1) first) (test-irreducible p (models .prime) (models .modulus2) second) .1
-
-one-pair : (p n : ℕ) (t1 t2 : List ℕ) → Models p n t1 t2 → (s r s' r' : List ℕ) → ChosenPair p n t1 t2 s r → ChosenPair p n t1 t2 s' r' → (s ≡ s') × (r ≡ r')
-one-pair p zero t1 t2 models s r s' r' h h' = absurd (omega (arith, models .degree))
-one-pair p (suc n) t1 t2 models s r s' r' h h' = chosen-unique (models .prime) (models .modulus1) (models .modulus2) h h'
 
 -- where the number is 0 the lent lists hold what is found
 module _ (p n : ℕ) (t1 t2 lentS lentR : List ℕ) (zero-number : findNumber p n t1 t2 lentS lentR ≡ 0) where
@@ -127,5 +119,5 @@ demand-3 p n t1 t2 models =
           let c : Returned p n t1 t2 = returned p n t1 t2 models lentS lentR h in
           subst₂ (λ s r. ChosenPair p n t1 t2 s r × (checkNumber p n t1 t2 s r ≡ 0)) (sym (output-s p n t1 t2 lentS lentR h)) (sym (output-r p n t1 t2 lentS lentR h))
           (found-accepted p n t1 t2 models (c .divides) (c .irreducible1) (c .irreducible2));
-      only-one = one-pair p n t1 t2 models;
+      only-one = laws p n t1 t2 models .only-one;
     }

@@ -18,7 +18,8 @@ use Rattle.quotient.proofs.Frobenius.{frobenius-substitutes}
 use Rattle.quotient.proofs.Operations.{constant-zero, power-words, residueOfX-words, scale-words, substitute-words}
 use Rattle.array.proofs.Words.{words-length, words-same, zeros-words}
 use Rattle.matrix.specs.Matrix.{Powers}
-use Rattle.matrix.proofs.PowerMatrix.{scale-word, powers-square, row-substitutes}
+use Rattle.quotient.proofs.SumOfPowers.{scale-word}
+use Rattle.matrix.proofs.PowerMatrix.{powers-square, row-substitutes}
 use Rattle.array.proofs.Padded.{words-at, front-is, holds-is, padded-zeros}
 use Rattle.frobenius.specs.Kernel.{Shifted, Kernel}
 

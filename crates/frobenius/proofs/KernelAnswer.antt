@@ -22,7 +22,7 @@ use Rattle.roots.specs.Roots.{Admissible, OrderModulo}
 use Rattle.algebra.specs.Search.{Decides}
 use Rattle.galois.proofs.KernelVector.{KernelVector, kernel-of-eigenvector, normalised-eigenvector}
 use Rattle.galois.proofs.FirstNonZero.{normalised}
-use Rattle.galois.proofs.KernelDecides.{kernel-decides, trivial-kernel-decides, alpha-of-kernel}
+use Rattle.galois.proofs.KernelDecides.{EigenvectorLaws, eigenvector-laws}
 
 pub not-not : (b : Bool) → not (not b) ≡ b
 not-not true = refl
@@ -45,10 +45,13 @@ module _ (p n z : ℕ) (t : List ℕ) (h : Admissible p n) (order : OrderModulo 
   abbrev T : List ℕ
   T = take n t
 
+  laws : EigenvectorLaws p n
+  laws = eigenvector-laws p (h .prime) n (h .low)
+
   pub answer-none : (r : Bool) (v : List ℕ) → Kernel p n T z r v → r ≡ true → (a : List ℕ) (b : ℕ) → AlphaFound p n T z false a b
   answer-none r v kernel e a b =
       record {
-        decides = sym (ap not (trivial-kernel-decides p (h .prime) n T (h .low) (ht .words) z order (kernel .if-regular e)));
+        decides = sym (ap not (laws .trivial-kernel-decides T (ht .words) z order (kernel .if-regular e)));
         alpha-is = λ f. absurd (false≢true f);
         constant-is = λ f. absurd (false≢true f);
       }
@@ -107,7 +110,7 @@ module _ (p n z : ℕ) (t : List ℕ) (h : Admissible p n) (order : OrderModulo 
             decides : f ≡ not (hasDivisor p T)
             decides =
                 decides-equal f (take n w) (constant n (getD w 0 0)) d ∙ ap₂ equal value (ap (constant n) constant-word)
-                ∙ sym (ap not (kernel-decides p (h .prime) n T (h .low) (ht .words) z order (normalised p U) normalised-kernel) ∙ not-not _)
+                ∙ sym (ap not (laws .kernel-decides T (ht .words) z order (normalised p U) normalised-kernel) ∙ not-not _)
 
             found : f ≡ true → alpha p T z ≡ normalised p U
-            found e = alpha-of-kernel p (h .prime) n T (h .low) (ht .words) z order (sym (not-not (hasDivisor p T)) ∙ ap not (sym decides ∙ e)) U kernel-vector
+            found e = laws .alpha-of-kernel T (ht .words) z order (sym (not-not (hasDivisor p T)) ∙ ap not (sym decides ∙ e)) U kernel-vector

@@ -14,7 +14,7 @@ use lib.Seq.{drop-cons, getD-take, ext-getD}
 use Rattle.algebra.specs.Prime.{Prime}
 use Rattle.modular.specs.Inverse.{inverse}
 use Rattle.quotient.specs.Residue.{scale, constant}
-use Rattle.quotient.proofs.Operations.{constant-words}
+use Rattle.quotient.proofs.Operations.{constant-length}
 use Rattle.array.proofs.Words.{words-length}
 use Rattle.array.specs.Array.{padded, Holds}
 use Rattle.array.proofs.Padded.{holds-word, array-fits, padded-zeros, take-zeros, painted-array}
@@ -98,9 +98,6 @@ constant-first : (n c : ℕ) → 1 ≤ n → getD (constant n c) 0 0 ≡ c
 unfolding constant
 constant-first zero c low = absurd (omega arith)
 constant-first (suc n) c low = refl
-
-constant-length : (n c : ℕ) → length (constant n c) ≡ n
-constant-length n c = words-length (constant-words {p = suc c} n (omega arith))
 
 module _ (p n : ℕ) (u : List ℕ) where
   pub constant-start : 1 ≤ n → Constant n u 1

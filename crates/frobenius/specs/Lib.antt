@@ -1,2 +1,2 @@
--- frobenius: PLACEHOLDER, say here what this crate has.
+-- What the contracts on kernels and eigenvectors cite.
 pub mod Kernel

@@ -1,5 +1,5 @@
 // The eigenvector α of the p-th power, α^p = ζ·α modulo T, by the kernel of the linear map u ↦ u^p − ζ·u. It also decides whether T has a monic
-// divisor of degree 1 to n − 1: exactly then there is no such vector, or its n-th power is not a constant.
+// divisor of degree 1 to n − 1: exactly then the kernel is 0.
 ghost use mathlib.Core.Bool.{false};
 ghost use mathlib.Core.Path.{_≡_};
 ghost use Prim.Native.Nat.{_^_, _≤_, _<_};
@@ -53,7 +53,8 @@ pub struct Alpha {
     pub constant: u64,
 }
 
-// The same from a vector v ≠ 0 of the kernel: divided by its first word that is not 0 it is α, if its n-th power is a constant.
+// The same from a vector v ≠ 0 of the kernel: divided by its first word that is not 0 it is α. That its n-th power is a constant is tested all the
+// same: a constant α^n is what the proof that T has no proper divisor rests on, and the power is worked out for a in any case.
 fn from_kernel(p: u64, n: usize, z: u64, t: &[u64; 16], v: &[u64; 16]) -> Alpha
     requires { ⌜ Admissible p n ⌝ }
     requires { ⌜ (z < p) × OrderModulo p n z ⌝ }

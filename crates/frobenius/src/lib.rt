@@ -1,7 +1,7 @@
-// frobenius: PLACEHOLDER, say here what this crate has.
-//   eigenvector  the eigenvector α of the p-th power, which also decides whether a modulus has a proper divisor
-//   express     the polynomial that takes a residue to X
-//   vector      multiples and division of residues by words
+// The map u ↦ u^p on residues as a matrix, on arrays of 16 words: its eigenvectors, and polynomials in a residue by linear systems.
+//   eigenvector   α, which also decides whether a modulus has a proper divisor
+//   express       the polynomial that takes a residue to X
+//   vector        multiples of residues, and division by the first word that is not 0
 pub mod eigenvector;
 pub mod express;
 pub mod vector;

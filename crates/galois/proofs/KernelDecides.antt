@@ -1,7 +1,8 @@
--- One vector v ≠ 0 with v^p = ζ·v modulo T decides whether T has a proper divisor, and gives α. On lists, and for every n ≥ 1.
---   kernel-decides, trivial-kernel-decides   refusals 6 and 7
---   alpha-of-kernel                          α from any such vector
---   alpha-powers                             the powers of α are independent
+-- Eigenvectors on lists, for every degree n ≥ 1: one vector v ≠ 0 with v^p = ζ·v modulo T decides whether T has a proper divisor, and gives α.
+--   irreducible-test, test-irreducible   the test for divisors and what it decides
+--   EigenvectorLaws p n                  what holds in degree n: v^n is a constant exactly if T has no proper divisor (so 6 and 7 are decided); if only 0
+--                                        satisfies the equation, T has one; α is v divided by its first coefficient that is not zero, its
+--                                        powers are independent, and α^n is a constant other than 0
 use mathlib.Core.Path.{_≡_, sym, ap, _∙_}
 use mathlib.Core.Bool.{true, false, not, true≢false}
 use mathlib.Core.List.{List}
@@ -33,57 +34,52 @@ module _ (p : ℕ) (prime : Prime p) where
   pub test-irreducible : {n : ℕ} {t : List ℕ} → Words p n t → hasDivisor p t ≡ false → HasDivisor p t → ⊥
   test-irreducible wt e h = true≢false (sym (has-divisor-test (prime .0) wt h) ∙ e)
 
-  -- v^n a constant: no proper divisor; not a constant: one
-  pub kernel-decides : (n : ℕ) (t : List ℕ) → 1 ≤ n → Words p n t → (z : ℕ) → OrderModulo p n z → (v : List ℕ) → KernelVector p n t z v
+
+pub record EigenvectorLaws (p n : ℕ) : Type 0 where
+  pub kernel-decides : (t : List ℕ) → Words p n t → (z : ℕ) → OrderModulo p n z → (v : List ℕ) → KernelVector p n t z v
       → hasDivisor p t ≡ not (equal (power p t v n) (constant n (powerConstant p t v)))
-  kernel-decides zero t low wt z order v kernel = absurd (omega arith)
-  kernel-decides (suc n) t low wt z order v kernel = by-divisor (has-divisor? (prime .0) wt)
-    where
-      a : ℕ
-      a = powerConstant p t v
-
-      by-divisor : Dec (HasDivisor p t) → hasDivisor p t ≡ not (equal (power p t v (suc n)) (constant (suc n) a))
-      by-divisor (yes h) =
-          has-divisor-test (prime .0) wt h
-          ∙ sym (ap not (test-fails (equal (power p t v (suc n)) (constant (suc n) a)) (λ e. no-divisor prime wt z order kernel a (of-equal (power p t v (suc n)) (constant (suc n) a) e) h)))
-      by-divisor (no h) =
-          let (b, pos, below, e) = power-is-constant prime wt h z order kernel in
-          irreducible-test wt h ∙ sym (ap not (equal-of (e ∙ ap (constant (suc n)) (sym (power-constant-is prime wt v b e)))))
-
-  -- no v at all: a proper divisor
-  pub trivial-kernel-decides : (n : ℕ) (t : List ℕ) → 1 ≤ n → Words p n t → (z : ℕ) → OrderModulo p n z
+  pub trivial-kernel-decides : (t : List ℕ) → Words p n t → (z : ℕ) → OrderModulo p n z
       → ((v : List ℕ) → Words p n v → power p t v p ≡ scale p z v → v ≡ constant n 0) → hasDivisor p t ≡ true
-  trivial-kernel-decides zero t low wt z order trivial = absurd (omega arith)
-  trivial-kernel-decides (suc n) t low wt z order trivial = by-divisor (has-divisor? (prime .0) wt)
-    where
-      by-divisor : Dec (HasDivisor p t) → hasDivisor p t ≡ true
-      by-divisor (yes h) = has-divisor-test (prime .0) wt h
-      by-divisor (no h) =
-          let (v, kernel) = kernel-vector-exists prime wt h z order in
-          absurd (kernel .not-zero (trivial v (kernel .words) (kernel .power-is)))
-
-  pub alpha-of-kernel : (n : ℕ) (t : List ℕ) → 1 ≤ n → Words p n t → (z : ℕ) → OrderModulo p n z → hasDivisor p t ≡ false → (v : List ℕ) → KernelVector p n t z v
+  pub alpha-of-kernel : (t : List ℕ) → Words p n t → (z : ℕ) → OrderModulo p n z → hasDivisor p t ≡ false → (v : List ℕ) → KernelVector p n t z v
       → alpha p t z ≡ normalised p v
-  alpha-of-kernel zero t low wt z order e v kernel = absurd (omega arith)
-  alpha-of-kernel (suc n) t low wt z order e v kernel = alpha-normalised prime wt z order (test-irreducible wt e) kernel
+  pub alpha-words : (t : List ℕ) → Words p n t → (z : ℕ) → OrderModulo p n z → hasDivisor p t ≡ false → Words p n (alpha p t z)
+  pub alpha-powers : (t : List ℕ) → Words p n t → (z : ℕ) → OrderModulo p n z → hasDivisor p t ≡ false → Independent p n t (alpha p t z)
+  pub alpha-power : (t : List ℕ) → Words p n t → (z : ℕ) → OrderModulo p n z → hasDivisor p t ≡ false
+      → (0 < powerConstant p t (alpha p t z)) × (powerConstant p t (alpha p t z) < p)
 
-  -- a = α^n is a constant other than 0
-  pub alpha-power : (n : ℕ) (t : List ℕ) → 1 ≤ n → Words p n t → (z : ℕ) → OrderModulo p n z → hasDivisor p t ≡ false
-      → (power p t (alpha p t z) n ≡ constant n (powerConstant p t (alpha p t z))) × (0 < powerConstant p t (alpha p t z)) × (powerConstant p t (alpha p t z) < p)
-  alpha-power zero t low wt z order e = absurd (omega arith)
-  alpha-power (suc n) t low wt z order e =
-      let kernel = alpha-kernel prime wt z order (test-irreducible wt e) in
-      let value = alpha-constant prime wt z order (test-irreducible wt e) in (
-        value,
+module _ (p : ℕ) (prime : Prime p) (n : ℕ) (t : List ℕ) (wt : Words p (suc n) t) (z : ℕ) (order : OrderModulo p (suc n) z) where
+  by-power : (v : List ℕ) → KernelVector p (suc n) t z v → Dec (HasDivisor p t)
+      → hasDivisor p t ≡ not (equal (power p t v (suc n)) (constant (suc n) (powerConstant p t v)))
+  by-power v kernel (yes h) =
+      let a : ℕ = powerConstant p t v in
+      has-divisor-test (prime .0) wt h
+      ∙ sym (ap not (test-fails (equal (power p t v (suc n)) (constant (suc n) a)) (λ e. no-divisor prime wt z order kernel a (of-equal (power p t v (suc n)) (constant (suc n) a) e) h)))
+  by-power v kernel (no h) =
+      let (b, pos, below, e) = power-is-constant prime wt h z order kernel in
+      irreducible-test p prime wt h ∙ sym (ap not (equal-of (e ∙ ap (constant (suc n)) (sym (power-constant-is prime wt v b e)))))
+
+  by-kernel : ((v : List ℕ) → Words p (suc n) v → power p t v p ≡ scale p z v → v ≡ constant (suc n) 0) → Dec (HasDivisor p t) → hasDivisor p t ≡ true
+  by-kernel trivial (yes h) = has-divisor-test (prime .0) wt h
+  by-kernel trivial (no h) =
+      let (v, kernel) = kernel-vector-exists prime wt h z order in
+      absurd (kernel .not-zero (trivial v (kernel .words) (kernel .power-is)))
+
+  alpha-positive : (HasDivisor p t → ⊥) → (0 < powerConstant p t (alpha p t z)) × (powerConstant p t (alpha p t z) < p)
+  alpha-positive irreducible =
+      let kernel = alpha-kernel prime wt z order irreducible in
+      let value = alpha-constant prime wt z order irreducible in (
         constant-positive prime wt z order kernel (powerConstant p t (alpha p t z)) value,
         constant-is-word prime wt (alpha p t z, kernel .words) (suc n) (powerConstant p t (alpha p t z)) value,
       )
 
-  pub alpha-words : (n : ℕ) (t : List ℕ) → 1 ≤ n → Words p n t → (z : ℕ) → OrderModulo p n z → hasDivisor p t ≡ false → Words p n (alpha p t z)
-  alpha-words zero t low wt z order e = absurd (omega arith)
-  alpha-words (suc n) t low wt z order e = alpha-kernel prime wt z order (test-irreducible wt e) .words
-
-  -- the system P(α) = X is regular
-  pub alpha-powers : (n : ℕ) (t : List ℕ) → 1 ≤ n → Words p n t → (z : ℕ) → OrderModulo p n z → hasDivisor p t ≡ false → Independent p n t (alpha p t z)
-  alpha-powers zero t low wt z order e = absurd (omega arith)
-  alpha-powers (suc n) t low wt z order e = alpha-independent prime wt z order (test-irreducible wt e)
+pub eigenvector-laws : (p : ℕ) → Prime p → (n : ℕ) → 1 ≤ n → EigenvectorLaws p n
+eigenvector-laws p prime zero low = absurd (omega arith)
+eigenvector-laws p prime (suc n) low =
+    record {
+      kernel-decides = λ t wt z order v kernel. by-power p prime n t wt z order v kernel (has-divisor? (prime .0) wt);
+      trivial-kernel-decides = λ t wt z order trivial. by-kernel p prime n t wt z order trivial (has-divisor? (prime .0) wt);
+      alpha-of-kernel = λ t wt z order e v kernel. alpha-normalised prime wt z order (test-irreducible p prime wt e) kernel;
+      alpha-words = λ t wt z order e. alpha-kernel prime wt z order (test-irreducible p prime wt e) .words;
+      alpha-powers = λ t wt z order e. alpha-independent prime wt z order (test-irreducible p prime wt e);
+      alpha-power = λ t wt z order e. alpha-positive p prime n t wt z order (test-irreducible p prime wt e);
+    }

@@ -10,3 +10,4 @@ pub mod Irreducible
 pub mod NoDivisor
 pub mod Alpha
 pub mod KernelDecides
+pub mod Root

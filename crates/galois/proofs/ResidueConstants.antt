@@ -3,7 +3,6 @@ use mathlib.Core.Path.{_≡_, sym, ap, _∙_, subst}
 use mathlib.Core.List.{List, head-eq-of-cons-eq}
 use Prim.Native.Nat.{ℕ, suc, _<_}
 use native.Mathlib.Nat.{mod-eq-of-lt}
-use lib.ListN.{length, length-replicate}
 use Rattle.algebra.specs.Prime.{Prime}
 use Rattle.algebra.specs.Ring.{CommutativeRing, numeral}
 use Rattle.algebra.specs.Ring as Ring
@@ -17,10 +16,6 @@ use Rattle.quotient.proofs.Reduction.{characteristic, zero-is, one-is}
 use Rattle.quotient.proofs.Ring.{residueRing, power-is, numeral-is}
 use Rattle.quotient.proofs.Substitution.{evaluate-zeros}
 use Rattle.quotient.proofs.Operations.{residue-path, power-words}
-
-pub constant-length : (n c : ℕ) → length (constant (suc n) c) ≡ suc n
-unfolding constant
-constant-length n c = ap suc (length-replicate n 0)
 
 pub constant-injective : (n a b : ℕ) → constant (suc n) a ≡ constant (suc n) b → a ≡ b
 unfolding constant

@@ -1,3 +1,3 @@
--- galois: PLACEHOLDER, say here what this crate has.
+-- Eigenvectors of the p-th power, and the powers of a residue as a basis.
 pub mod Eigenvector
 pub mod Express

@@ -7,15 +7,15 @@ use Prim.Native.Nat.{ℕ, _+_, _%_, _≤_, _<_}
 use native.Mathlib.Numerals.{add-one}
 use native.Mathlib.Omega.{arith}
 use lib.Dec.{eqb}
-use lib.ListN.{length, getD, take, drop, drop-of-length-le, getD-replicate, length-replicate}
+use lib.ListN.{length, getD, take, drop, drop-of-length-le, getD-replicate}
 use lib.Seq.{drop-cons, getD-take, length-take-le}
 use borrow.Author.Tests.{eq-eqb, ne-eqb}
 use Rattle.algebra.specs.Lists.{equal}
 use Rattle.quotient.specs.Residue.{sum, constant}
-use Rattle.quotient.proofs.Operations.{sum-words, constant-zero}
+use Rattle.quotient.proofs.Operations.{sum-words, constant-zero, constant-length}
 use Rattle.array.proofs.Words.{words-length}
 use Rattle.array.specs.Array.{Holds}
-use Rattle.matrix.proofs.PowerMatrix.{sum-word}
+use Rattle.quotient.proofs.SumOfPowers.{sum-word}
 
 pub record Left (n : ℕ) (xs ys : List ℕ) (i : ℕ) : Type 0 where
   pub first-length : length xs ≡ n
@@ -64,11 +64,8 @@ module _ (n : ℕ) (u v : List ℕ) where
 -- the words of a sum, and 0
 
 module _ (p n : ℕ) (u v : List ℕ) (x : Holds p n u) (y : Holds p n v) where
-  zero-length : length (constant n 0) ≡ n
-  zero-length = ap length (constant-zero n) ∙ length-replicate n 0
-
   pub opposite-starts : Left n (sum p (take n u) (take n v)) (constant n 0) 0
-  opposite-starts = record { first-length = words-length (sum-words (x .words) (y .words)); second-length = zero-length; rest = refl }
+  opposite-starts = record { first-length = words-length (sum-words (x .words) (y .words)); second-length = constant-length n 0; rest = refl }
 
   module _ (i a : ℕ) (h : Left n (sum p (take n u) (take n v)) (constant n 0) i) (l : i < n) (e : a ≡ (getD u i 0 + getD v i 0) % p) where
     sum-at : getD (sum p (take n u) (take n v)) i 0 ≡ a

@@ -7,6 +7,7 @@ pub mod Ring
 pub mod Evaluation
 pub mod Reduction
 pub mod Substitution
+pub mod SumOfPowers
 pub mod Remainder
 pub mod Listing
 pub mod Divisor

@@ -1,12 +1,12 @@
 -- Every operation on residues gives n words below p again, and residues with equal lists are equal.
-use mathlib.Core.Path.{_≡_, refl}
+use mathlib.Core.Path.{_≡_, refl, ap}
 use mathlib.Core.HLevel.{Σ-prop-path, Σ-prop-discrete}
 use mathlib.Core.List.{List, [], _∷_, List-discrete}
 use Prim.Native.Nat.{ℕ, zero, suc, _<_, _≤_}
 use native.Mathlib.Nat as Nat
 use native.Mathlib.Decide.{ℕ-discrete}
 use native.Mathlib.Omega.{arith}
-use lib.ListN.{length, replicate}
+use lib.ListN.{length, replicate, length-replicate}
 use Rattle.array.specs.Words.{Words, none, more}
 use Rattle.quotient.specs.Residue.{Residue, sum, scale, constant, shift, top, timesX, product, power, residueOfX, substitute, modulusAt}
 use Rattle.array.proofs.Words.{words-length, words-prop, zeros-words}
@@ -31,6 +31,11 @@ pub constant-zero : (n : ℕ) → constant n 0 ≡ replicate n 0
 unfolding constant
 constant-zero zero = refl
 constant-zero (suc n) = refl
+
+pub constant-length : (n c : ℕ) → length (constant n c) ≡ n
+unfolding constant
+constant-length zero c = refl
+constant-length (suc n) c = ap suc (length-replicate n 0)
 
 pub constant-words : {p : ℕ} (n : ℕ) {c : ℕ} → c < p → Words p n (constant n c)
 unfolding constant

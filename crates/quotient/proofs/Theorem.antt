@@ -13,6 +13,7 @@ use Rattle.quotient.proofs.Reduction as Reduction
 use Rattle.quotient.proofs.Remainder as Division
 use Rattle.quotient.proofs.Ring as Residues
 use Rattle.quotient.proofs.Substitution as Substitution
+use Rattle.quotient.proofs.SumOfPowers as SumOfPowers
 use Rattle.quotient.proofs.Units as Units
 
 pub residues-are-a-ring : Theorem.ResiduesAreARing
@@ -25,6 +26,9 @@ pub product-is-remainder : Theorem.ProductIsRemainder
 product-is-remainder p n t u v big wt wu wv =
     let e = Residues.product-reduced big wt u (v, wv) in
     (rw e (Division.remainder-is big wt (polynomialProduct p u v)), λ r h. Division.remainder-unique big wt (polynomialProduct p u v) r h ∙ sym e)
+
+pub substitution-is-sum : Theorem.SubstitutionIsSum
+substitution-is-sum p n t s u big wt ws = SumOfPowers.substitute-sum big wt (s, ws) u
 
 pub substitution-preserves : Theorem.SubstitutionPreserves
 substitution-preserves p m n t1 t2 s big w1 w2 ws root = Substitution.substitution-preserves big w1 w2 ws root

@@ -3,6 +3,7 @@
 --   ResiduesAreARing        sum and product make the residues a commutative ring
 --   ModulusVanishes         T(X) = 0 modulo T
 --   ProductIsRemainder      u·v modulo T is the remainder of the polynomial u·v on division by T, and there is only one remainder
+--   SubstitutionIsSum       u(S) modulo T is the sum of the u_i·S^i, the powers by repeated product
 --   SubstitutionPreserves   if T1(S) = 0 modulo T2, then u ↦ u(S) modulo T2 preserves sums, products and one
 --   ResiduesAreListed       the list of all residues has each of them, none twice, p^n in all
 --   NonZeroIsUnit           p prime, T without a divisor of degree 1 to n − 1: every residue but 0 has an inverse
@@ -10,7 +11,7 @@
 --   IrreducibleDivisor      p prime: T has a monic divisor of degree 1 to n that has itself no divisor of lower degree but constants
 --   FrobeniusIsLinear       p prime: (u + v)^p = u^p + v^p and (c·u)^p = c·u^p
 use mathlib.Core.Path.{_≡_}
-use mathlib.Core.List.{List}
+use mathlib.Core.List.{List, [], _∷_}
 use Prim.Native.Nat.{ℕ, zero, suc, _-_, _^_, _≤_, _<_}
 use lib.ListN.{length}
 use Rattle.algebra.specs.Lists.{Member, Distinct}
@@ -39,6 +40,15 @@ ProductIsRemainder =
     (p n : ℕ) (t u v : List ℕ) → 2 ≤ p → Words p (suc n) t → Words p (suc n) u → Words p (suc n) v
     → Remainder p t (polynomialProduct p u v) (product p t u v)
     × ((r : List ℕ) → Remainder p t (polynomialProduct p u v) r → r ≡ product p t u v)
+
+-- u_0·S^k + u_1·S^(k + 1) + …
+unfoldable pub sumOfPowers : ℕ → List ℕ → List ℕ → ℕ → List ℕ → List ℕ
+sumOfPowers p t s k [] = constant (length t) 0
+sumOfPowers p t s k (c ∷ u) = sum p (scale p c (power p t s k)) (sumOfPowers p t s (suc k) u)
+
+abbrev pub SubstitutionIsSum : Type 0
+SubstitutionIsSum =
+    (p n : ℕ) (t s u : List ℕ) → 2 ≤ p → Words p (suc n) t → Words p (suc n) s → substitute p t s u ≡ sumOfPowers p t s 0 u
 
 abbrev pub SubstitutionPreserves : Type 0
 SubstitutionPreserves =

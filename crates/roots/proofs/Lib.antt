@@ -1,6 +1,6 @@
--- roots: PLACEHOLDER, say here what this crate has.
-pub mod RootOfRatio
+-- ζ and c exist, and the laws of the searches for them.
 pub mod Zeta
+pub mod RootOfRatio
 pub mod RootsOfUnity
 pub mod OrderScan
 pub mod RootScan

@@ -1,9 +1,9 @@
 -- The loops of `unity`: the powers of w are compared with 1 from the first on; the numbers g are tried from s on, modulo p; the smallest of
--- the powers of w that have order n is kept.
+-- the powers of w that have order n is smallest.
 --   Lower p n w x m        x = w^m, and no w^k with 1 ≤ k < m is 1
 --   Generates p n g        g^((p − 1)/n) has order n
---   Tried s p n g w        s ≤ g < s + p, w = g^((p − 1)/n), and no j with s ≤ j < g has a power j^((p − 1)/n) of order n
---   Kept p n w least x k   x = w^k, and `least` is the smallest of w, w², …, w^k that has order n
+--   NoneBefore s p n g w        s ≤ g < s + p, w = g^((p − 1)/n), and no j with s ≤ j < g has a power j^((p − 1)/n) of order n
+--   SmallestOfPowers p n w least x k   x = w^k, and `least` is the smallest of w, w², …, w^k that has order n
 use mathlib.Core.Path.{_≡_, sym, ap, subst, _∙_}
 use mathlib.Core.Bool.{Bool, true, false, not, false≢true}
 use Prim.Native.Nat.{ℕ, _+_, _-_, _*_, _/_, _%_, _^_, _≤_, _<_}
@@ -66,7 +66,7 @@ module _ (p n w : ℕ) where
 abbrev Generates : ℕ → ℕ → ℕ → Type 0
 Generates p n g = OrderModulo p n ((g % p) ^ ((p - 1) / n) % p)
 
-pub record Tried (s p n g w : ℕ) : Type 0 where
+pub record NoneBefore (s p n g w : ℕ) : Type 0 where
   pub searched : Searched (Generates p n) s (s + p) g
   pub power-is : w ≡ (g % p) ^ ((p - 1) / n) % p
   pub small : w < p
@@ -84,18 +84,18 @@ base-fits p n g h =
     omega (arith, h .small)
 
 module _ (s p n : ℕ) (h : Admissible p n) where
-  pub tried-start : (w : ℕ) → w ≡ (s % p) ^ ((p - 1) / n) % p → w < p → Tried s p n s w
-  tried-start w e l =
+  pub none-before-start : (w : ℕ) → w ≡ (s % p) ^ ((p - 1) / n) % p → w < p → NoneBefore s p n s w
+  none-before-start w e l =
       record {
         searched = record { from = omega arith; to = omega (arith, h .prime .0); others = λ j high low. absurd (omega arith) };
         power-is = e;
         small = l;
       }
 
-  module _ (g w : ℕ) (t : Tried s p n g w) (r : Bool) (answer : Decides r (OrderModulo p n w)) where
+  module _ (g w : ℕ) (t : NoneBefore s p n g w) (r : Bool) (answer : Decides r (OrderModulo p n w)) where
     -- some number is still to come
-    pub tried-turn : not r ≡ true → (w′ : ℕ) → w′ ≡ ((g + 1) % p) ^ ((p - 1) / n) % p → w′ < p → Tried s p n (g + 1) w′
-    tried-turn no-order w′ e l =
+    pub none-before-turn : not r ≡ true → (w′ : ℕ) → w′ ≡ ((g + 1) % p) ^ ((p - 1) / n) % p → w′ < p → NoneBefore s p n (g + 1) w′
+    none-before-turn no-order w′ e l =
         let (j, low, high, o) = generator-exists h in
         let within : (j + (p - s % p)) % p < p = mod-lt (j + (p - s % p)) (omega arith) in
         record {
@@ -107,10 +107,10 @@ module _ (s p n : ℕ) (h : Admissible p n) where
           small = l;
         }
 
-    pub tried-end : not r ≡ false → OrderModulo p n w
-    tried-end order = answer .if-true (not-false r order)
+    pub none-before-end : not r ≡ false → OrderModulo p n w
+    none-before-end order = answer .if-true (not-false r order)
 
-pub record Kept (p n w least x k : ℕ) : Type 0 where
+pub record SmallestOfPowers (p n w least x k : ℕ) : Type 0 where
   pub from : 1 ≤ k
   pub to : k ≤ n
   pub base-small : w < p
@@ -121,8 +121,8 @@ pub record Kept (p n w least x k : ℕ) : Type 0 where
   pub minimal : Minimal (OrderModulo p n) (λ j. w ^ j % p) 1 (k + 1) least
 
 module _ (p n w : ℕ) where
-  pub kept-start : 1 ≤ n → w < p → OrderModulo p n w → Kept p n w w w 1
-  kept-start pos l o =
+  pub smallest-start : 1 ≤ n → w < p → OrderModulo p n w → SmallestOfPowers p n w w w 1
+  smallest-start pos l o =
       record {
         from = omega arith;
         to = pos;
@@ -134,49 +134,49 @@ module _ (p n w : ℕ) where
         minimal = minimal-start (OrderModulo p n) (λ j. w ^ j % p) 1 w (power-first p w l) o;
       }
 
-  module _ (least x k : ℕ) (kept : Kept p n w least x k) where
+  module _ (least x k : ℕ) (smallest : SmallestOfPowers p n w least x k) where
     module _ (y : ℕ) (more : k < n) (step : y ≡ x * w % p) (small : y < p) where
       -- the next power is y, and `next` is the smallest so far
-      kept-next : (next : ℕ) → next < p → OrderModulo p n next → next ≤ least → (OrderModulo p n y → next ≤ y) → Kept p n w next y (k + 1)
-      kept-next next l o smaller last =
+      smallest-next : (next : ℕ) → next < p → OrderModulo p n next → next ≤ least → (OrderModulo p n y → next ≤ y) → SmallestOfPowers p n w next y (k + 1)
+      smallest-next next l o smaller last =
           record {
             from = omega arith;
             to = omega arith;
-            base-small = kept .base-small;
-            base-order = kept .base-order;
+            base-small = smallest .base-small;
+            base-order = smallest .base-order;
             power-is = value;
             small = small;
             least-small = l;
-            minimal = minimal-next (OrderModulo p n) (λ j. w ^ j % p) 1 (k + 1) least next (kept .minimal) o smaller (subst (λ v. OrderModulo p n v → next ≤ v) value last);
+            minimal = minimal-next (OrderModulo p n) (λ j. w ^ j % p) 1 (k + 1) least next (smallest .minimal) o smaller (subst (λ v. OrderModulo p n v → next ≤ v) value last);
           }
         where
           value : y ≡ w ^ (k + 1) % p
-          value = power-next p w k x y (kept .power-is) step
+          value = power-next p w k x y (smallest .power-is) step
 
-      kept-same : (next : ℕ) → next ≡ least → (OrderModulo p n y → least ≤ y) → Kept p n w next y (k + 1)
-      kept-same next e last = rw e (kept-next least (kept .least-small) (kept .minimal .has) (omega arith) last)
+      smallest-same : (next : ℕ) → next ≡ least → (OrderModulo p n y → least ≤ y) → SmallestOfPowers p n w next y (k + 1)
+      smallest-same next e last = rw e (smallest-next least (smallest .least-small) (smallest .minimal .has) (omega arith) last)
 
-      pub kept-above : (next : ℕ) → next ≡ least → least ≤ y → Kept p n w next y (k + 1)
-      kept-above next e h = kept-same next e (λ _. h)
+      pub smallest-above : (next : ℕ) → next ≡ least → least ≤ y → SmallestOfPowers p n w next y (k + 1)
+      smallest-above next e h = smallest-same next e (λ _. h)
 
       module _ (less : y < least) (r : Bool) (answer : Decides r (OrderModulo p n y)) where
-        pub kept-lower : (next : ℕ) → next ≡ y → r ≡ true → Kept p n w next y (k + 1)
-        kept-lower next e t = rw e (kept-next y small (answer .if-true t) (omega arith) (λ _. omega arith))
+        pub smallest-lower : (next : ℕ) → next ≡ y → r ≡ true → SmallestOfPowers p n w next y (k + 1)
+        smallest-lower next e t = rw e (smallest-next y small (answer .if-true t) (omega arith) (λ _. omega arith))
 
-        pub kept-other : (next : ℕ) → next ≡ least → r ≡ false → Kept p n w next y (k + 1)
-        kept-other next e f = kept-same next e (λ o. absurd (answer .if-false f o))
+        pub smallest-other : (next : ℕ) → next ≡ least → r ≡ false → SmallestOfPowers p n w next y (k + 1)
+        smallest-other next e f = smallest-same next e (λ o. absurd (answer .if-false f o))
 
     -- every element of order n is one of the powers w, w², …, w^n
-    pub kept-end : Admissible p n → n ≤ k → least ≡ zeta p n
-    kept-end h all =
-        smallest-unique (OrderModulo p n) p least (zeta p n) (positive, kept .least-small, kept .minimal .has, none)
+    pub smallest-end : Admissible p n → n ≤ k → least ≡ zeta p n
+    smallest-end h all =
+        smallest-unique (OrderModulo p n) p least (zeta p n) (positive, smallest .least-small, smallest .minimal .has, none)
         (zeta-is p n (h .prime) (h .low) (h .high) (h .divides))
       where
         positive : 1 ≤ least
-        positive = order-positive p n (h .prime) (h .low) least (kept .minimal .has)
+        positive = order-positive p n (h .prime) (h .low) least (smallest .minimal .has)
 
         none : (j : ℕ) → 1 ≤ j → j < least → OrderModulo p n j → ⊥
         none j low less o =
-            let (i, from, to, e) = unity-is-power h w j (kept .base-small) (kept .base-order) (omega (arith, kept .least-small)) (o .0) in
-            let l : least ≤ w ^ i % p = kept .minimal .below i (omega arith) from (subst (OrderModulo p n) e o) in
+            let (i, from, to, e) = unity-is-power h w j (smallest .base-small) (smallest .base-order) (omega (arith, smallest .least-small)) (o .0) in
+            let l : least ≤ w ^ i % p = smallest .minimal .below i (omega arith) from (subst (OrderModulo p n) e o) in
             omega arith

@@ -1,2 +1,2 @@
--- roots: PLACEHOLDER, say here what this crate has.
+-- Roots of unity and n-th roots modulo p.
 pub mod Roots

@@ -24,7 +24,8 @@ fn coprime_part(m: u64, n: u64) -> u64
     r
 }
 
-// The inverse of n modulo m, for m prime to n: (1 + k·m)/n for the one k below n that makes it whole.
+// The inverse of n modulo m, for m prime to n: (1 + k·m)/n for the one k below n that makes it whole. Nothing is promised of it: what comes
+// of it is a candidate, which is tried and not trusted.
 fn inverse_of_degree(m: u64, n: u64) -> u64
     requires { ⌜ (m ≤ 1048576) × (1 ≤ n) × (n ≤ 16) ⌝ }
 {

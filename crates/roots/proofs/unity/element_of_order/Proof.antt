@@ -1,12 +1,12 @@
 -- `element_of_order` tries the numbers from 31415 on, modulo p; some number modulo p is right.
 use borrow.Author.Needs.{needs}
 use Prim.Native.Nat.{_+_, _-_}
-use Rattle.roots.proofs.OrderScan.{Tried, base-fits, tried-start, tried-turn, tried-end}
+use Rattle.roots.proofs.OrderScan.{NoneBefore, base-fits, none-before-start, none-before-turn, none-before-end}
 use Rattle.roots.proofs.unity.element_of_order.Statement.{statement}
 use Rattle.roots.proofs.unity.element_of_order.Tie as tie
 
 abbrev Inv-loop : tie.InvT-loop
-Inv-loop p n k g₀ w₀ g w = Tried 31415 p n g w
+Inv-loop p n k g₀ w₀ g w = NoneBefore 31415 p n g w
 
 abbrev μ-loop : tie.MeasureT-loop
 μ-loop p n k g₀ w₀ g w = 31415 + p - g
@@ -24,7 +24,7 @@ power-requires : tie.Need-power-requires Inv-loop μ-loop
 power-requires c κs = (search needs, search needs, search base-fits)
 
 loop-holds : tie.Need-loop-holds Inv-loop μ-loop
-loop-holds c = search tried-start
+loop-holds c = search none-before-start
 
 has-order-requires : tie.Need-has-order-requires Inv-loop μ-loop
 has-order-requires c κs = search needs
@@ -42,10 +42,10 @@ loop-less : tie.Need-loop-less Inv-loop μ-loop
 loop-less c = search needs
 
 loop-again : tie.Need-loop-again Inv-loop μ-loop
-loop-again c = search tried-turn
+loop-again c = search none-before-turn
 
 returns : tie.Need-returns Inv-loop μ-loop
-returns c = (search needs, search tried-end)
+returns c = (search needs, search none-before-end)
 
 pub element-of-order-spec : {M : Type 1} → statement M
 element-of-order-spec =

@@ -2,12 +2,12 @@
 use borrow.Author.Needs.{needs}
 use mathlib.Core.Logic.{⊎-elim}
 use Prim.Native.Nat.{_-_}
-use Rattle.roots.proofs.OrderScan.{Kept, kept-start, kept-above, kept-lower, kept-other, kept-end}
+use Rattle.roots.proofs.OrderScan.{SmallestOfPowers, smallest-start, smallest-above, smallest-lower, smallest-other, smallest-end}
 use Rattle.roots.proofs.unity.zeta.Statement.{statement}
 use Rattle.roots.proofs.unity.zeta.Tie as tie
 
 abbrev Inv-loop : tie.InvT-loop
-Inv-loop p n w least₀ x₀ k₀ least x k = Kept p n w least x k
+Inv-loop p n w least₀ x₀ k₀ least x k = SmallestOfPowers p n w least x k
 
 abbrev μ-loop : tie.MeasureT-loop
 μ-loop p n w least₀ x₀ k₀ least x k = n - k
@@ -16,7 +16,7 @@ element-of-order-requires : tie.Need-element-of-order-requires Inv-loop μ-loop
 element-of-order-requires c κs = search needs
 
 loop-holds : tie.Need-loop-holds Inv-loop μ-loop
-loop-holds c = search kept-start
+loop-holds c = search smallest-start
 
 mul-requires : tie.Need-mul-requires Inv-loop μ-loop
 mul-requires c κs = search needs
@@ -31,10 +31,10 @@ loop-less : tie.Need-loop-less Inv-loop μ-loop
 loop-less c = search needs
 
 loop-again : tie.Need-loop-again Inv-loop μ-loop
-loop-again c = ⊎-elim (λ w. search kept-lower) (⊎-elim (λ w. search kept-other) (λ w. search kept-above)) (c .if1 .came)
+loop-again c = ⊎-elim (λ w. search smallest-lower) (⊎-elim (λ w. search smallest-other) (λ w. search smallest-above)) (c .if1 .came)
 
 returns : tie.Need-returns Inv-loop μ-loop
-returns c = (search kept-end, search needs)
+returns c = (search smallest-end, search needs)
 
 pub zeta-spec : {M : Type 1} → statement M
 zeta-spec =

@@ -1,5 +1,4 @@
 -- The proofs of examples A to I.
-pub mod Root
 pub mod Listed
 pub mod Refused
 pub mod Examples

@@ -11,28 +11,28 @@ use Rattle.card.specs.Bits.{bits, numberFrom, bytes, packed}
 use Rattle.card.specs.Card.{width, allBits, card, badKind, cardLength, writeNumber, writeOutput}
 use Rattle.roots.specs.Roots.{zeta, rootOfRatio}
 use Rattle.galois.specs.Eigenvector.{firstNonZero}
-use Rattle.finder.specs.Finder.{findNumber}
+use Rattle.finder.specs.Finder.{findable, findNumber}
 use Rattle.modular.specs.Prime.{isPrime}
 use Rattle.array.specs.Words.{allBelow}
-use Rattle.refusal.specs.Refusal.{badPrime, badDegree, badLength, badWord}
-use Rattle.pair.specs.Pair.{accepts, checkNumber}
+use Rattle.refusal.specs.Refusal.{badPrime, isDegree, badDegree, badLength, badWord}
+use Rattle.pair.specs.Pair.{accepts, checkNumberOr}
 use Rattle.quotient.specs.Divisor.{monic, polynomialProduct}
 use Rattle.quotient.specs.DivisorTest.{hasDivisor}
 use Rattle.quotient.specs.Residue.{sum, scale, constant, shift, top, timesX, product, power, residueOfX, substitute, modulusAt}
 use Rattle.refusal.proofs.Refusal.{refuse-none}
 use Rattle.array.specs.Array.{padded}
 use Rattle.session.specs.Session.{valid, viewAs, view, pairedSession, converted, tableNumber, convertNumber, imageForward, imageBack, forwardOutput, backOutput}
-use Rattle.examples.specs.Examples.{Found, Examples}
-use Rattle.examples.proofs.Root.{root}
-use Rattle.examples.proofs.Listed.{found, outputs}
-use Rattle.examples.proofs.Refused.{words-counted, factor-divides, indivisible-refused, divisor-refused, second-refused}
+use Rattle.promises.specs.Examples.{FinderValues, Examples}
+use Rattle.promises.proofs.Listed.{root}
+use Rattle.promises.proofs.Listed.{found, outputs}
+use Rattle.promises.proofs.Refused.{words-counted, factor-divides, indivisible-refused, divisor-refused, second-refused}
 
 pub examples : Examples
-unfolding all equal first range bits numberFrom bytes packed width allBits card badKind cardLength writeNumber writeOutput zeta rootOfRatio firstNonZero findNumber isPrime badPrime badDegree badLength
-    badWord allBelow accepts checkNumber monic polynomialProduct sum scale constant shift top timesX product power residueOfX substitute modulusAt
+unfolding all equal first range bits numberFrom bytes packed width allBits card badKind cardLength writeNumber writeOutput zeta rootOfRatio firstNonZero findable findNumber isPrime badPrime isDegree badDegree badLength
+    badWord allBelow accepts checkNumberOr monic polynomialProduct sum scale constant shift top timesX product power residueOfX substitute modulusAt
     padded valid viewAs view pairedSession converted tableNumber convertNumber imageForward imageBack forwardOutput backOutput
 examples =
-    let A : Found 3 2 (1 ∷ 0 ∷ []) (2 ∷ 1 ∷ []) 2 (0 ∷ 1 ∷ []) (1 ∷ 2 ∷ []) 2 2 1 (1 ∷ 2 ∷ []) (1 ∷ 2 ∷ []) =
+    let A : FinderValues 3 2 (1 ∷ 0 ∷ []) (2 ∷ 1 ∷ []) 2 (0 ∷ 1 ∷ []) (1 ∷ 2 ∷ []) 2 2 1 (1 ∷ 2 ∷ []) (1 ∷ 2 ∷ []) =
     found refl refl refl (root refl refl refl refl refl) (root refl refl refl refl refl) refl refl in
     let splits = factor-divides 3 (1 ∷ []) (2 ∷ 1 ∷ []) (2 ∷ 0 ∷ []) (lit≤ tt) refl refl (lit< tt) (lit< tt) refl in
     record {
@@ -45,15 +45,15 @@ examples =
       E = found refl refl refl (root refl refl refl refl refl) (root refl refl refl refl refl) refl refl;
       F-check = refl;
       F-find = λ lentS lentR lengthS lengthR.
-          divisor-refused (words-counted 3 (0 ∷ 0 ∷ []) refl) (words-counted 3 (0 ∷ 0 ∷ []) refl) lentS lentR lengthS lengthR refl refl refl
+          divisor-refused refl refl (words-counted 3 (0 ∷ 0 ∷ []) refl) (words-counted 3 (0 ∷ 0 ∷ []) refl) lentS lentR lengthS lengthR refl
           (factor-divides 3 (0 ∷ []) (0 ∷ 1 ∷ []) (0 ∷ 0 ∷ []) (lit≤ tt) refl refl (lit< tt) (lit< tt) refl);
       G-product = refl;
       G-first = λ t2 lentS lentR w2 lengthS lengthR.
-          divisor-refused (words-counted 3 (2 ∷ 0 ∷ []) refl) w2 lentS lentR lengthS lengthR refl refl refl splits;
+          divisor-refused refl refl (words-counted 3 (2 ∷ 0 ∷ []) refl) w2 lentS lentR lengthS lengthR refl splits;
       G-second = λ lentS lentR lengthS lengthR.
-          second-refused (words-counted 3 (1 ∷ 0 ∷ []) refl) (words-counted 3 (2 ∷ 0 ∷ []) refl) lentS lentR lengthS lengthR refl refl refl
+          second-refused refl refl (words-counted 3 (1 ∷ 0 ∷ []) refl) (words-counted 3 (2 ∷ 0 ∷ []) refl) lentS lentR lengthS lengthR refl
           (refuse-none 5 (hasDivisor 3 (1 ∷ 0 ∷ [])) _ (A .number-is (0 ∷ 0 ∷ []) (0 ∷ 0 ∷ []) refl refl) .0) splits;
-      H = λ t1 t2 lentS lentR w1 w2 lengthS lengthR. indivisible-refused w1 w2 lentS lentR lengthS lengthR refl refl refl;
+      H = λ t1 t2 lentS lentR w1 w2 lengthS lengthR. indivisible-refused refl refl w1 w2 lentS lentR lengthS lengthR refl;
       I-pair = λ out e. rw (eq-eqb (length out) 5 e);
       I-job = λ out e. rw (eq-eqb (length out) 6 e);
     }

@@ -6,12 +6,13 @@
 --   found                                  then the finder finds these values, and its answer is 0
 --   outputs                                and it writes S and R
 use mathlib.Core.Path.{_≡_, sym, ap, _∙_, subst}
-use mathlib.Core.List.{List}
-use Prim.Native.Nat.{ℕ, suc, _-_, _%_, _≤_}
+use mathlib.Core.Bool.{false}
+use mathlib.Core.List.{List, [], _∷_}
+use Prim.Native.Nat.{ℕ, suc, _-_, _/_, _%_, _^_, _≤_}
 use lib.ListN.{length}
 use Rattle.roots.specs.Roots.{zeta, rootOfRatio, OrderModulo}
 use Rattle.galois.specs.Express.{express}
-use Rattle.finder.specs.Finder.{findS, findR, findOutputS, findOutputR}
+use Rattle.finder.specs.Finder.{Findable, findS, findR, findOutputS, findOutputR}
 use Rattle.finder.proofs.ChosenPair.{zeta-found}
 use Rattle.finder.proofs.Construction.{root-independent}
 use Rattle.galois.proofs.Express.{express-is, express-unique}
@@ -19,18 +20,27 @@ use Rattle.finder.proofs.Theorem.{demand-3}
 use Rattle.pair.specs.Pair.{Congruences, checkNumber}
 use Rattle.pair.specs.Theorem.{Given}
 use Rattle.pair.proofs.Theorem.{checker-theorem}
-use Rattle.quotient.specs.Residue.{constant, modulusAt, scale, substitute}
+use Rattle.galois.specs.Eigenvector.{firstNonZero}
+use Rattle.refusal.specs.Refusal.{badLength, badWord}
+use Rattle.refusal.proofs.Lists.{words-given}
+use Rattle.quotient.specs.Residue.{power, constant, modulusAt, scale, substitute}
 use Rattle.quotient.proofs.Substitution.{substitute-substitute, x-substitute}
 use Rattle.array.proofs.Words.{words-length}
-use Rattle.examples.specs.Examples.{Found}
-use Rattle.examples.proofs.Root.{Root, IsAlpha, root-is-alpha}
+use Rattle.promises.specs.Examples.{FinderValues}
+use Rattle.galois.proofs.Root.{RootOfConstant, IsAlpha, root-is-alpha}
+
+-- an n-th root of a constant, from its tests
+pub root : {p n : ℕ} {t : List ℕ} {z : ℕ} {v : List ℕ} {a : ℕ} → badLength n (v ∷ []) ≡ false → badWord p (v ∷ []) ≡ false → firstNonZero v ≡ 1
+    → power p t v n ≡ constant n a → a ^ ((p - 1) / n) % p ≡ z → RootOfConstant p n t z v a
+root {p} {n} {v = v} length-is words-are firstNonZero-is power-is eigenvalue-is =
+    record { words = words-given p n (v ∷ []) length-is words-are .0; firstNonZero-is = firstNonZero-is; power-is = power-is; eigenvalue-is = eigenvalue-is }
 
 record Listed (p n : ℕ) (t1 t2 : List ℕ) (z : ℕ) (v1 v2 : List ℕ) (a1 a2 c : ℕ) (s r : List ℕ) : Type 0 where
   accepted : checkNumber p n t1 t2 s r ≡ 0
-  divides : (p - 1) % n ≡ 0
+  divides : Findable p n
   zeta-is : zeta p n ≡ z
-  root1 : Root p n t1 z v1 a1
-  root2 : Root p n t2 z v2 a2
+  root1 : RootOfConstant p n t1 z v1 a1
+  root2 : RootOfConstant p n t2 z v2 a2
   c-is : rootOfRatio p n a1 a2 ≡ c
   image-is : substitute p t2 s v1 ≡ scale p c v2
 
@@ -70,7 +80,7 @@ module _ {p n : ℕ} {t1 t2 : List ℕ} {z : ℕ} {v1 v2 : List ℕ} {a1 a2 c : 
       (root-independent (given .models .prime) (given .models .modulus1) (given .models .modulus2) (alpha1-found .irreducible) (given .words-s) root-of-t1)
       r (given .words-r) (congruences .r-of-s)
 
-  values-found : Found p (suc n) t1 t2 z v1 v2 a1 a2 c s r
+  values-found : FinderValues p (suc n) t1 t2 z v1 v2 a1 a2 c s r
   values-found =
       record {
         zeta-is = h .zeta-is;
@@ -86,12 +96,12 @@ module _ {p n : ℕ} {t1 t2 : List ℕ} {z : ℕ} {v1 v2 : List ℕ} {a1 a2 c : 
       }
 
 pub found : {p n : ℕ} {t1 t2 : List ℕ} {z : ℕ} {v1 v2 : List ℕ} {a1 a2 c : ℕ} {s r : List ℕ}
-    → checkNumber p (suc n) t1 t2 s r ≡ 0 → (p - 1) % suc n ≡ 0 → zeta p (suc n) ≡ z → Root p (suc n) t1 z v1 a1 → Root p (suc n) t2 z v2 a2
-    → rootOfRatio p (suc n) a1 a2 ≡ c → substitute p t2 s v1 ≡ scale p c v2 → Found p (suc n) t1 t2 z v1 v2 a1 a2 c s r
+    → checkNumber p (suc n) t1 t2 s r ≡ 0 → Findable p (suc n) → zeta p (suc n) ≡ z → RootOfConstant p (suc n) t1 z v1 a1 → RootOfConstant p (suc n) t2 z v2 a2
+    → rootOfRatio p (suc n) a1 a2 ≡ c → substitute p t2 s v1 ≡ scale p c v2 → FinderValues p (suc n) t1 t2 z v1 v2 a1 a2 c s r
 found accepted divides zeta-is root1 root2 c-is image-is =
     values-found record { accepted = accepted; divides = divides; zeta-is = zeta-is; root1 = root1; root2 = root2; c-is = c-is; image-is = image-is }
 
-pub outputs : {p n : ℕ} {t1 t2 : List ℕ} {z : ℕ} {v1 v2 : List ℕ} {a1 a2 c : ℕ} {s r : List ℕ} → Found p n t1 t2 z v1 v2 a1 a2 c s r
+pub outputs : {p n : ℕ} {t1 t2 : List ℕ} {z : ℕ} {v1 v2 : List ℕ} {a1 a2 c : ℕ} {s r : List ℕ} → FinderValues p n t1 t2 z v1 v2 a1 a2 c s r
     → (lentS lentR : List ℕ) → length lentS ≡ n → length lentR ≡ n → (findOutputS p n t1 t2 lentS lentR ≡ s) × (findOutputR p n t1 t2 lentS lentR ≡ r)
 unfolding findOutputS findOutputR
 outputs h lentS lentR lengthS lengthR =

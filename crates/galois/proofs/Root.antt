@@ -1,11 +1,10 @@
 -- An n-th root v of a constant modulo T: if v^n = a and n divides p − 1, then v^p = a^((p − 1)/n)·v, for every n. So v is an eigenvector of the p-th
 -- power with the eigenvalue ζ = a^((p − 1)/n), and no p-th power has to be worked out. If ζ has order n, then T has no divisor of degree
 -- 1 to n − 1; and if the first coefficient of v that is not zero is 1, then v is α, and a is its constant.
---   Root p n t z v a      v is n words, the first that is not zero is 1, v^n = a modulo T, and a^((p − 1)/n) = z modulo p
+--   RootOfConstant p n t z v a      v is n words, the first that is not zero is 1, v^n = a modulo T, and a^((p − 1)/n) = z modulo p
 --   IsAlpha p n t z v a   what follows
 use mathlib.Core.Path.{_≡_, sym, ap, ap₂, _∙_}
-use mathlib.Core.Bool.{false}
-use mathlib.Core.List.{List, [], _∷_}
+use mathlib.Core.List.{List}
 use Prim.Native.Nat.{ℕ, suc, _+_, _-_, _*_, _/_, _%_, _^_}
 use native.Mathlib.Nat.{div-add-mod'}
 use native.Mathlib.Omega.{arith}
@@ -14,36 +13,28 @@ use Rattle.algebra.specs.Prime.{Prime}
 use Rattle.algebra.specs.Ring.{CommutativeRing}
 use Rattle.algebra.specs.Ring as Ring
 use Rattle.algebra.proofs.RingLaws.{power-add, power-mul, power-one}
 use Rattle.galois.specs.Eigenvector.{alpha, firstNonZero, powerConstant, Eigenvector}
 use Rattle.galois.proofs.Alpha.{alpha-unique, power-constant-is}
 use Rattle.galois.specs.Express.{Independent}
 use Rattle.galois.proofs.Irreducible.{eigenvector-unique, kernel-independent}
 use Rattle.galois.proofs.KernelVector.{KernelVector, kernel-of-eigenvector}
 use Rattle.galois.proofs.FirstNonZero.{firstNonZero-constant-zero}
 use Rattle.galois.proofs.NoDivisor.{no-divisor}
 use Rattle.galois.proofs.ResidueConstants.{power-numeral}
 use Rattle.roots.specs.Roots.{OrderModulo}
 use Rattle.roots.proofs.Zeta.{power-of-numeral}
-use Rattle.refusal.specs.Refusal.{badLength, badWord}
 use Rattle.quotient.specs.Divisor.{HasDivisor}
 use Rattle.array.specs.Words.{Words}
 use Rattle.quotient.specs.Residue.{Residue, constant, power, scale}
 use Rattle.quotient.proofs.Reduction.{characteristic, scale-is}
-use Rattle.refusal.proofs.Lists.{words-given}
 use Rattle.quotient.proofs.Ring.{residueRing, power-is}
 use Rattle.array.proofs.Words.{to-length}
 
-pub record Root (p n : ℕ) (t : List ℕ) (z : ℕ) (v : List ℕ) (a : ℕ) : Type 0 where
-  words : Words p n v
-  firstNonZero-is : firstNonZero v ≡ 1
-  power-is : power p t v n ≡ constant n a
-  eigenvalue-is : a ^ ((p - 1) / n) % p ≡ z
-
--- the tests, in the order of the fields
-pub root : {p n : ℕ} {t : List ℕ} {z : ℕ} {v : List ℕ} {a : ℕ} → badLength n (v ∷ []) ≡ false → badWord p (v ∷ []) ≡ false → firstNonZero v ≡ 1
-    → power p t v n ≡ constant n a → a ^ ((p - 1) / n) % p ≡ z → Root p n t z v a
-root {p} {n} {v = v} length-is words-are firstNonZero-is power-is eigenvalue-is =
-    record { words = words-given p n (v ∷ []) length-is words-are .0; firstNonZero-is = firstNonZero-is; power-is = power-is; eigenvalue-is = eigenvalue-is }
+pub record RootOfConstant (p n : ℕ) (t : List ℕ) (z : ℕ) (v : List ℕ) (a : ℕ) : Type 0 where
+  pub words : Words p n v
+  pub firstNonZero-is : firstNonZero v ≡ 1
+  pub power-is : power p t v n ≡ constant n a
+  pub eigenvalue-is : a ^ ((p - 1) / n) % p ≡ z
 
 pub record IsAlpha (p n : ℕ) (t : List ℕ) (z : ℕ) (v : List ℕ) (a : ℕ) : Type 0 where
   pub irreducible : HasDivisor p t → ⊥
@@ -68,7 +59,7 @@ module _ {p n : ℕ} {t : List ℕ} (prime : Prime p) (wt : Words p (suc n) t) w
       (power-one K v))
       ∙ scale-is (prime .0) wt z v
 
-  root-eigenvector : (p - 1) % suc n ≡ 0 → {z : ℕ} {v : List ℕ} {a : ℕ} → Root p (suc n) t z v a → Eigenvector p t z v
+  root-eigenvector : (p - 1) % suc n ≡ 0 → {z : ℕ} {v : List ℕ} {a : ℕ} → RootOfConstant p (suc n) t z v a → Eigenvector p t z v
   root-eigenvector divides {z} {v} {a} h =
       let exponent : suc n * ((p - 1) / suc n) + 1 ≡ p = omega (arith, div-add-mod' (p - 1) (suc n), prime .0) in
       record {
@@ -78,7 +69,7 @@ module _ {p n : ℕ} {t : List ℕ} (prime : Prime p) (wt : Words p (suc n) t) w
         firstNonZero-is = h .firstNonZero-is;
       }
 
-  pub root-is-alpha : (p - 1) % suc n ≡ 0 → {z : ℕ} → OrderModulo p (suc n) z → {v : List ℕ} {a : ℕ} → Root p (suc n) t z v a
+  pub root-is-alpha : (p - 1) % suc n ≡ 0 → {z : ℕ} → OrderModulo p (suc n) z → {v : List ℕ} {a : ℕ} → RootOfConstant p (suc n) t z v a
       → IsAlpha p (suc n) t z v a
   root-is-alpha divides {z} order {v} {a} h =
       let eigenvector : Eigenvector p t z v = root-eigenvector divides h in

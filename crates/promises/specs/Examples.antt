@@ -14,7 +14,7 @@ use Rattle.array.specs.Words.{Words}
 use Rattle.session.specs.Session.{pairedSession, forwardOutput, backOutput}
 
 -- the finder's values for two models, from ζ to R
-pub record Found (p n : ℕ) (t1 t2 : List ℕ) (z : ℕ) (alpha1 alpha2 : List ℕ) (a1 a2 c : ℕ) (s r : List ℕ) : Type 0 where
+pub record FinderValues (p n : ℕ) (t1 t2 : List ℕ) (z : ℕ) (alpha1 alpha2 : List ℕ) (a1 a2 c : ℕ) (s r : List ℕ) : Type 0 where
   pub zeta-is : zeta p n ≡ z
   pub alpha1-is : alpha p t1 z ≡ alpha1
   pub alpha2-is : alpha p t2 z ≡ alpha2
@@ -27,7 +27,7 @@ pub record Found (p n : ℕ) (t1 t2 : List ℕ) (z : ℕ) (alpha1 alpha2 : List 
 
 pub record Examples : Type 0 where
   -- A: p 3, T1 [1,0], T2 [2,1]: ζ 2, α1 [0,1], α2 [1,2], c 1, S [1,2], R [1,2]
-  pub A : Found 3 2 (1 ∷ 0 ∷ []) (2 ∷ 1 ∷ []) 2 (0 ∷ 1 ∷ []) (1 ∷ 2 ∷ []) 2 2 1 (1 ∷ 2 ∷ []) (1 ∷ 2 ∷ [])
+  pub A : FinderValues 3 2 (1 ∷ 0 ∷ []) (2 ∷ 1 ∷ []) 2 (0 ∷ 1 ∷ []) (1 ∷ 2 ∷ []) 2 2 1 (1 ∷ 2 ∷ []) (1 ∷ 2 ∷ [])
   -- B: models of A: S [2,1], R [1,1] is accepted; the finder gives A's pair
   pub B : checkNumber 3 2 (1 ∷ 0 ∷ []) (2 ∷ 1 ∷ []) (2 ∷ 1 ∷ []) (1 ∷ 1 ∷ []) ≡ 0
   pub B-finds-A :
@@ -42,9 +42,9 @@ pub record Examples : Type 0 where
       → backOutput (pairedSession 3 2 (1 ∷ 0 ∷ []) (2 ∷ 1 ∷ []) (1 ∷ 2 ∷ []) (1 ∷ 2 ∷ [])) (2 ∷ 2 ∷ []) out ≡ 1 ∷ 1 ∷ []
   -- D: p 7, T1 [5,0,0], T2 [4,0,0]: ζ 2, α1 [0,0,1], α2 [0,1,0], a1 4, a2 3, c 3, S [0,0,1], R [0,0,5]
   pub D :
-      Found 7 3 (5 ∷ 0 ∷ 0 ∷ []) (4 ∷ 0 ∷ 0 ∷ []) 2 (0 ∷ 0 ∷ 1 ∷ []) (0 ∷ 1 ∷ 0 ∷ []) 4 3 3 (0 ∷ 0 ∷ 1 ∷ []) (0 ∷ 0 ∷ 5 ∷ [])
+      FinderValues 7 3 (5 ∷ 0 ∷ 0 ∷ []) (4 ∷ 0 ∷ 0 ∷ []) 2 (0 ∷ 0 ∷ 1 ∷ []) (0 ∷ 1 ∷ 0 ∷ []) 4 3 3 (0 ∷ 0 ∷ 1 ∷ []) (0 ∷ 0 ∷ 5 ∷ [])
   -- E: p 2, T1 [1], T2 [0]: S [1], R [0]
-  pub E : Found 2 1 (1 ∷ []) (0 ∷ []) 1 (1 ∷ []) (1 ∷ []) 1 1 1 (1 ∷ []) (0 ∷ [])
+  pub E : FinderValues 2 1 (1 ∷ []) (0 ∷ []) 1 (1 ∷ []) (1 ∷ []) 1 1 1 (1 ∷ []) (0 ∷ [])
   -- F: p 3, T1 = T2 = [0,0]: S = R = [0,1] is accepted; the finder refuses with 6
   pub F-check : checkNumber 3 2 (0 ∷ 0 ∷ []) (0 ∷ 0 ∷ []) (0 ∷ 1 ∷ []) (0 ∷ 1 ∷ []) ≡ 0
   pub F-find :
