@@ -1,6 +1,7 @@
 /* Times our calls beside PARI, FLINT, NTL and plain C in one run, interleaved, on the same inputs, and prints medians, minima and ratios.
- * Every result is tested, so that no work can be left out. Inputs of FIND, CHECK and the product are a few hundred bytes and stay in the
- * first cache; a table of 32,768 words is 64 KiB in and 64 KiB out, and was read and written in the round before. */
+ * Every result is read by a test or stored where the compiler cannot tell its use, so that no work can be left out. Inputs of FIND, CHECK
+ * and the product are a few hundred bytes and stay in the first cache; a table of 32,768 words is 64 KiB in and 64 KiB out, and was read and
+ * written in the round before. */
 #include "peers.h"
 #include "yokebean.h"
 #include <stdio.h>

@@ -20,8 +20,8 @@ typedef struct {
     uint16_t table[LARGEST_TABLE];
 } job;
 
-/* A peer: `prepare` takes a job, the others do its work once; a function that a peer lacks is null. Each returns whether its result is
- * right, so that no work can be left out. */
+/* A peer: `prepare` takes a job, the others do its work once; a function that a peer lacks is null. Each returns whether its result
+ * passes a test that reads it, so that no work can be left out. */
 typedef struct {
     const char *name;
     void (*prepare)(const job *);

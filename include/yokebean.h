@@ -35,16 +35,7 @@
 extern "C" {
 #endif
 
-/* Whether the four congruences hold; then u -> u(S) mod T2 and u -> u(R) mod T1 are inverse isomorphisms. 1, 2, 3, 4, 8. */
-uint32_t yokebean_check(uint32_t p, uint32_t n, const uint16_t *t1, size_t t1_len, const uint16_t *t2, size_t t2_len,
-                        const uint16_t *s, size_t s_len, const uint16_t *r, size_t r_len);
-
-/* Writes the pair of Allombert's Algorithm 2.1, with the smallest zeta and c from 1 to p - 1 and eigenvectors whose first coefficient that is
- * not zero is 1, into s_out and r_out, two lists of n words. 1 to 7. */
-uint32_t yokebean_find(uint32_t p, uint32_t n, const uint16_t *t1, size_t t1_len, const uint16_t *t2, size_t t2_len,
-                       uint16_t *s_out, size_t s_len, uint16_t *r_out, size_t r_len);
-
-/* out := u(S) modulo T. 1 to 4. */
+/* Residues: out := u(S) modulo T. 1 to 4. */
 uint32_t yokebean_substitute(uint32_t p, uint32_t n, const uint16_t *t, size_t t_len, const uint16_t *s, size_t s_len,
                              const uint16_t *u, size_t u_len, uint16_t *out, size_t out_len);
 
@@ -56,17 +47,14 @@ uint32_t yokebean_product(uint32_t p, uint32_t n, const uint16_t *t, size_t t_le
 uint32_t yokebean_power(uint32_t p, uint32_t n, const uint16_t *t, size_t t_len, const uint16_t *u, size_t u_len,
                         uint64_t k, uint16_t *out, size_t out_len);
 
-/* A card's answer: kind 1 is a job (T1, T2), kind 2 a pair (T1, T2, S, R). */
-typedef struct {
-    uint32_t number, p, n, kind;
-} yokebean_card;
+/* The checker: whether the four congruences hold; then u -> u(S) mod T2 and u -> u(R) mod T1 are inverse isomorphisms. 1, 2, 3, 4, 8. */
+uint32_t yokebean_check(uint32_t p, uint32_t n, const uint16_t *t1, size_t t1_len, const uint16_t *t2, size_t t2_len,
+                        const uint16_t *s, size_t s_len, const uint16_t *r, size_t r_len);
 
-/* Reads a card; its coefficients go into the first places of 64 lent words, the rest become 0. 3, 11, 1, 12, 11, 13, 4. */
-yokebean_card yokebean_card_read(const uint8_t *card, size_t card_len, uint16_t *words, size_t words_len);
-
-/* Writes a card of 2n (kind 1) or 4n (kind 2) coefficients into a list of exactly its length: (24 + 2*kind*n*w + 7) / 8 bytes, rounded down,
- * where w is the number of binary digits of p - 1; at most 131. 1, 2, 12, 3, 4. */
-uint32_t yokebean_card_write(uint32_t p, uint32_t n, uint32_t kind, const uint16_t *words, size_t words_len, uint8_t *card, size_t card_len);
+/* The finder: writes the pair of Allombert's Algorithm 2.1, with the smallest zeta and c from 1 to p - 1 and eigenvectors whose first
+ * coefficient that is not zero is 1, into s and r, two lists of n words. 1 to 7. */
+uint32_t yokebean_find(uint32_t p, uint32_t n, const uint16_t *t1, size_t t1_len, const uint16_t *t2, size_t t2_len,
+                       uint16_t *s, size_t s_len, uint16_t *r, size_t r_len);
 
 /* A session's value: state 0 is empty, 1 loaded (p, n, t1, t2), 2 paired (also s, r); the first n words of each array count. A value with
  * another state, or with a p, n or coefficient, of those that its state has, that 1, 2 or 4 refuses, counts as a new one. */
@@ -75,7 +63,7 @@ typedef struct {
     uint16_t t1[16], t2[16], s[16], r[16];
 } yokebean_session;
 
-/* A session call's answer. */
+/* A session call's answer: the number, and the next session; refused, the session that the call took. */
 typedef struct {
     uint32_t number;
     yokebean_session session;
@@ -86,7 +74,7 @@ yokebean_session yokebean_session_new(void);
 
 /* Empty to loaded. 23, 1 to 4. */
 yokebean_step yokebean_session_load(yokebean_session session, uint32_t p, uint32_t n, const uint16_t *t1, size_t t1_len,
-                            const uint16_t *t2, size_t t2_len);
+                                    const uint16_t *t2, size_t t2_len);
 
 /* Loaded to paired, if the checker accepts. 21, 24, 3, 4, 8. */
 yokebean_step yokebean_session_propose(yokebean_session session, const uint16_t *s, size_t s_len, const uint16_t *r, size_t r_len);
@@ -94,12 +82,27 @@ yokebean_step yokebean_session_propose(yokebean_session session, const uint16_t 
 /* Loaded to paired, with the finder's pair. 21, 24, 5, 6, 7. */
 yokebean_step yokebean_session_find(yokebean_session session);
 
-/* Converts a table of residues, group of n words by group: forward u -> u(S) mod T2, back u -> u(R) mod T1. 21, 22, 9, 10, 4. */
-yokebean_step yokebean_session_forward(yokebean_session session, const uint16_t *in, size_t in_len, uint16_t *out, size_t out_len);
-yokebean_step yokebean_session_back(yokebean_session session, const uint16_t *in, size_t in_len, uint16_t *out, size_t out_len);
+/* Converts a table of residues modulo T1, group of n words by group: u -> u(S) mod T2. 21, 22, 9, 10, 4. */
+yokebean_step yokebean_session_forward(yokebean_session session, const uint16_t *table, size_t table_len, uint16_t *out, size_t out_len);
+
+/* Converts a table of residues modulo T2: u -> u(R) mod T1. 21, 22, 9, 10, 4. */
+yokebean_step yokebean_session_back(yokebean_session session, const uint16_t *table, size_t table_len, uint16_t *out, size_t out_len);
 
 /* Any state to empty; never refused. */
 yokebean_step yokebean_session_clear(yokebean_session session);
+
+/* The reader's answer: kind 1 is a job (T1, T2), kind 2 a pair card (T1, T2, S, R). */
+typedef struct {
+    uint32_t number, p, n, kind;
+} yokebean_card;
+
+/* Reads a card; its coefficients go into the first places of 64 lent words, the rest become 0. 3, 11, 1, 12, 11, 13, 4. */
+yokebean_card yokebean_card_read(const uint8_t *bytes, size_t bytes_len, uint16_t *words, size_t words_len);
+
+/* Writes a card of 2n (kind 1) or 4n (kind 2) coefficients into a list of exactly its length: (24 + 2*kind*n*w + 7) / 8 bytes, rounded down,
+ * where w is the number of binary digits of p - 1; at most 131. 1, 2, 12, 3, 4. */
+uint32_t yokebean_card_write(uint32_t p, uint32_t n, uint32_t kind, const uint16_t *words, size_t words_len,
+                             uint8_t *bytes, size_t bytes_len);
 
 #ifdef __cplusplus
 }

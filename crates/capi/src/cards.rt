@@ -3,7 +3,7 @@ ghost use mathlib.Core.Path.{_≡_};
 ghost use Rattle.card.specs.Card.{readNumber, readPrime, readDegree, readKind, readOutput, writeNumber, writeOutput};
 use array::Word;
 
-// The reader's answer.
+// The reader's answer; refused, every field but the number is 0.
 #[repr(C)]
 pub struct CardValue {
     pub number: u32,
@@ -12,6 +12,7 @@ pub struct CardValue {
     pub kind: u32,
 }
 
+// Reads a card; its coefficients go into the first of 64 lent words, the rest become 0: 0, or 3, 11, 1, 12, 11, 13, 4.
 #[no_mangle]
 pub extern "C" fn yokebean_card_read(bytes: &[u8], words: &mut [Word]) -> CardValue
     ensures { λ r. ⌜ r .number ≡ readNumber (now (bytes .entry)) (now (words .entry)) ⌝ }
@@ -29,6 +30,7 @@ pub extern "C" fn yokebean_card_read(bytes: &[u8], words: &mut [Word]) -> CardVa
     }
 }
 
+// Writes a card into a lent list of exactly its length: 0, or 1, 2, 12, 3, 4.
 #[no_mangle]
 pub extern "C" fn yokebean_card_write(
     p: u32,

@@ -5,6 +5,7 @@ ghost use Rattle.pair.specs.Pair.{checkNumber};
 ghost use Rattle.arithmetic.specs.Calls.{substituteNumber, substituteOutput, productNumber, productOutput, powerNumber, powerOutput};
 use array::Word;
 
+// Whether the four congruences hold, so that S and R are inverse isomorphisms: 0, or 1, 2, 3, 4, 8.
 #[no_mangle]
 pub extern "C" fn yokebean_check(
     p: u32,
@@ -19,6 +20,7 @@ pub extern "C" fn yokebean_check(
     pair::checker::check(p, n, t1, t2, s, r)
 }
 
+// s and r := the pair of Algorithm 2.1: 0, or 1 to 7.
 #[no_mangle]
 pub extern "C" fn yokebean_find(
     p: u32,
@@ -35,6 +37,7 @@ pub extern "C" fn yokebean_find(
     finder::find::find(p, n, t1, t2, s, r)
 }
 
+// out := u(S) modulo T: 0, or 1 to 4.
 #[no_mangle]
 pub extern "C" fn yokebean_substitute(
     p: u32,
@@ -50,6 +53,7 @@ pub extern "C" fn yokebean_substitute(
     arithmetic::call::substitute(p, n, t, s, u, out)
 }
 
+// out := u·v modulo T: 0, or 1 to 4.
 #[no_mangle]
 pub extern "C" fn yokebean_product(
     p: u32,
@@ -65,6 +69,7 @@ pub extern "C" fn yokebean_product(
     arithmetic::call::product(p, n, t, u, v, out)
 }
 
+// out := u^k modulo T: 0, or 1 to 4.
 #[no_mangle]
 pub extern "C" fn yokebean_power(
     p: u32,

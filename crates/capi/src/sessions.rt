@@ -6,7 +6,7 @@ ghost use mathlib.Core.Path.{_≡_};
 ghost use Rattle.capi.specs.Values.{sessionOf, valueOf, stepOf, convertedOf};
 ghost use Rattle.session.specs.Session.{newSession, load, propose, find, convert, forwardOutput, backOutput, clear};
 
-// A session's value: state 0 is empty, 1 loaded, 2 paired.
+// A session's value: state 0 is empty, 1 loaded (p, n, T1, T2), 2 paired (also S, R).
 #[repr(C)]
 pub struct SessionValue {
     pub state: u32,
@@ -18,13 +18,14 @@ pub struct SessionValue {
     pub r: [Word; 16],
 }
 
-// A session call's answer.
+// A session call's answer: the number and the next session; refused, the session that was taken.
 #[repr(C)]
 pub struct StepValue {
     pub number: u32,
     pub session: SessionValue,
 }
 
+// A new session: empty.
 #[no_mangle]
 pub extern "C" fn yokebean_session_new() -> SessionValue
     ensures { λ r. ⌜ r ≡ valueOf newSession ⌝ }
@@ -40,6 +41,7 @@ pub extern "C" fn yokebean_session_new() -> SessionValue
     }
 }
 
+// Empty to loaded: 0, or 23, 1 to 4.
 #[no_mangle]
 pub extern "C" fn yokebean_session_load(
     session: SessionValue,
@@ -53,6 +55,7 @@ pub extern "C" fn yokebean_session_load(
     step_of(session, session_of(session).load(p, n, t1, t2))
 }
 
+// Loaded to paired, if the checker accepts: 0, or 21, 24, 3, 4, 8.
 #[no_mangle]
 pub extern "C" fn yokebean_session_propose(
     session: SessionValue,
@@ -64,6 +67,7 @@ pub extern "C" fn yokebean_session_propose(
     step_of(session, session_of(session).propose(s, r))
 }
 
+// Loaded to paired, with the finder's pair: 0, or 21, 24, 5, 6, 7.
 #[no_mangle]
 pub extern "C" fn yokebean_session_find(session: SessionValue) -> StepValue
     ensures { λ r. ⌜ r ≡ stepOf session (find (sessionOf session)) ⌝ }
@@ -71,6 +75,7 @@ pub extern "C" fn yokebean_session_find(session: SessionValue) -> StepValue
     step_of(session, session_of(session).find())
 }
 
+// out := the images of a table of residues modulo T1, by S, modulo T2: 0, or 21, 22, 9, 10, 4.
 #[no_mangle]
 pub extern "C" fn yokebean_session_forward(
     session: SessionValue,
@@ -87,6 +92,7 @@ pub extern "C" fn yokebean_session_forward(
     }
 }
 
+// out := the images of a table of residues modulo T2, by R, modulo T1: 0, or 21, 22, 9, 10, 4.
 #[no_mangle]
 pub extern "C" fn yokebean_session_back(
     session: SessionValue,
@@ -103,6 +109,7 @@ pub extern "C" fn yokebean_session_back(
     }
 }
 
+// Any state to empty: always 0.
 #[no_mangle]
 pub extern "C" fn yokebean_session_clear(session: SessionValue) -> StepValue
     ensures { λ r. ⌜ r ≡ stepOf session (clear (sessionOf session)) ⌝ }

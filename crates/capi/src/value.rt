@@ -7,6 +7,7 @@ use session::Step;
 ghost use mathlib.Core.Path.{_≡_};
 ghost use Rattle.capi.specs.Values.{stateOf, numberOf, sessionOf, valueOf, stepOf};
 
+// The state with this number; a number above 2 is that of a value made otherwise, which counts as new: empty.
 fn state_of(number: u32) -> State
     ensures { λ r. ⌜ r ≡ stateOf number ⌝ }
 {
@@ -17,6 +18,7 @@ fn state_of(number: u32) -> State
     }
 }
 
+// The number of a state: 0 is empty, 1 loaded, 2 paired.
 fn number_of(state: State) -> u32
     ensures { λ r. ⌜ r ≡ numberOf state ⌝ }
 {
@@ -27,6 +29,7 @@ fn number_of(state: State) -> u32
     }
 }
 
+// The session of a value.
 pub fn session_of(v: SessionValue) -> Session
     ensures { λ r. ⌜ r ≡ sessionOf v ⌝ }
 {
@@ -45,6 +48,7 @@ pub fn session_of(v: SessionValue) -> Session
     }
 }
 
+// The value of a session.
 fn value_of(x: Session) -> SessionValue
     ensures { λ r. ⌜ r ≡ valueOf x ⌝ }
 {
@@ -64,7 +68,7 @@ fn value_of(x: Session) -> SessionValue
     }
 }
 
-// The answer of a call: refused, the value that was taken.
+// The answer of load, propose, find or clear: the number and the next value; refused, the value that was taken.
 pub fn step_of(v: SessionValue, step: Step) -> StepValue
     ensures { λ r. ⌜ r ≡ stepOf v step ⌝ }
 {

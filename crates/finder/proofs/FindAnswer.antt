@@ -29,6 +29,9 @@ module _ (p n : ℕ) (t1 t2 : List ℕ) (m : Models p n t1 t2) where
   pub second-short : length t2 ≤ 16
   second-short = omega (arith, words-length (m .modulus2), m .degree .1)
 
+  pub out-short : (out : List ℕ) → length out ≡ n → length out ≤ 16
+  out-short out size = omega (arith, m .degree .1)
+
   pub first-holds : (a : List ℕ) → a ≡ padded t1 → Holds p n a
   first-holds a e = holds-is e (m .modulus1)
 
@@ -54,9 +57,6 @@ module _ (p n : ℕ) (t1 t2 : List ℕ) (m : Models p n t1 t2) where
           laws .words (laws .chosen divides (test-irreducible p (m .prime) (m .modulus1) first) (test-irreducible p (m .prime) (m .modulus2) second))
 
       module _ (out : List ℕ) (size : length out ≡ n) where
-        pub out-short : length out ≤ 16
-        out-short = omega (arith, m .degree .1)
-
         stores : (u w : List ℕ) → w ≡ padded u → Words p n u → Holds (2 ^ 16) (length out) w
         stores u w e wu = subst (λ k. Holds (2 ^ 16) k w) (sym size) (holds-is e (words-up (omega (arith, m .small)) wu))
 

@@ -34,7 +34,6 @@ module _ (p : ℕ) (prime : Prime p) where
   pub test-irreducible : {n : ℕ} {t : List ℕ} → Words p n t → hasDivisor p t ≡ false → HasDivisor p t → ⊥
   test-irreducible wt e h = true≢false (sym (has-divisor-test (prime .0) wt h) ∙ e)
 
-
 pub record EigenvectorLaws (p n : ℕ) : Type 0 where
   pub kernel-decides : (t : List ℕ) → Words p n t → (z : ℕ) → OrderModulo p n z → (v : List ℕ) → KernelVector p n t z v
       → hasDivisor p t ≡ not (equal (power p t v n) (constant n (powerConstant p t v)))

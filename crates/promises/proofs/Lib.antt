@@ -1,4 +1,5 @@
--- The proofs of examples A to I.
-pub mod Listed
-pub mod Refused
-pub mod Examples
+-- The proofs of all promises, and of the examples.
+mod Promises
+mod Examples
+mod Listed
+mod Refused

@@ -1,2 +1,3 @@
--- Examples A to I of document 01.
+-- All that is promised, and the examples of document 01.
+pub mod Promises
 pub mod Examples

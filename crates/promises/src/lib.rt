@@ -1,1 +1,1 @@
-// Examples A to I of document 01, "Small fields by hand": the statement (specs/) and its proof (proofs/). No code.
+// All that is promised, each statement with its proof, and the examples A to I of document 01. Statements and proofs; no code.

@@ -1,86 +1,33 @@
 //! Isomorphisms of finite fields: check a pair, find one, convert tables through it. Each function passes its slices on to the proved call of
-//! the same name (include/yokebean.h says what it does); none of them panics, and a refused call leaves every slice as it was.
+//! the same name in include/yokebean.h, which `rt staticlib capi` builds; none of them panics, and a refused call leaves every slice as it was.
+//!
+//! A model is a prime p up to 65,535, a degree n from 1 to 16 and a monic modulus of degree n; its n lower words are passed, constant first.
+//! A residue is n words below p, in the same order.
+//!
+//! ```
+//! use yokebean::{Session, Size};
+//!
+//! # fn main() -> Result<(), yokebean::Refusal> {
+//! // X² + 1 and X² + X + 2 modulo 3: two models of the field of 9 elements
+//! let session = Session::new().load(Size { p: 3, n: 2 }, &[1, 0], &[2, 1])?.find()?;
+//! let mut image = [0; 4];
+//! session.forward(&[1, 1, 0, 2], &mut image)?;
+//! assert_eq!(image, [2, 2, 2, 1]);
+//! # Ok(())
+//! # }
+//! ```
 
 pub mod raw;
+mod refusal;
 
-/// Every refusal with document 01's number.
-const NUMBERS: [(Refusal, u32); 17] = [
-    (Refusal::NotPrime, 1),
-    (Refusal::Degree, 2),
-    (Refusal::Length, 3),
-    (Refusal::Word, 4),
-    (Refusal::DegreeDoesNotDivide, 5),
-    (Refusal::FirstModulusFactors, 6),
-    (Refusal::SecondModulusFactors, 7),
-    (Refusal::Congruence, 8),
-    (Refusal::TableLength, 9),
-    (Refusal::OutputLength, 10),
-    (Refusal::CardLength, 11),
-    (Refusal::CardKind, 12),
-    (Refusal::FillBit, 13),
-    (Refusal::SessionEmpty, 21),
-    (Refusal::SessionWithoutPair, 22),
-    (Refusal::SessionNotEmpty, 23),
-    (Refusal::SessionPaired, 24),
-];
-
-/// Why a call was refused.
-#[derive(Clone, Copy, Debug, PartialEq, Eq)]
-pub enum Refusal {
-    /// `p` is below 2, above 65,535 or not prime.
-    NotPrime,
-    /// `n` is not 1 to 16.
-    Degree,
-    /// A list of coefficients, read or written, or the list for a card has the wrong length.
-    Length,
-    /// A coefficient is p or more.
-    Word,
-    /// `n` does not divide p − 1.
-    DegreeDoesNotDivide,
-    /// T1 has a monic divisor of degree 1 to n − 1.
-    FirstModulusFactors,
-    /// T2 has one.
-    SecondModulusFactors,
-    /// One of the four congruences fails.
-    Congruence,
-    /// More than 32,768 words to convert, or not a multiple of n.
-    TableLength,
-    /// Output length differs from input length.
-    OutputLength,
-    /// Card under 3 bytes, or not of its exact length.
-    CardLength,
-    /// Kind is neither 1 nor 2.
-    CardKind,
-    /// A fill bit is 1.
-    FillBit,
-    /// The session is empty.
-    SessionEmpty,
-    /// The session has no pair.
-    SessionWithoutPair,
-    /// The session is not empty.
-    SessionNotEmpty,
-    /// The session has a pair.
-    SessionPaired,
-    /// A number that this layer does not know; no call gives one.
-    Other(u32),
-}
-
-impl Refusal {
-    fn of(number: u32) -> Self {
-        NUMBERS.iter().find(|entry| entry.1 == number).map_or(Refusal::Other(number), |entry| entry.0)
-    }
-
-    /// Document 01's number.
-    pub fn number(self) -> u32 {
-        match self {
-            Refusal::Other(number) => number,
-            known => NUMBERS.iter().find(|entry| entry.0 == known).map_or(0, |entry| entry.1),
-        }
-    }
-}
+pub use refusal::Refusal;
 
 fn answer<T>(number: u32, value: T) -> Result<T, Refusal> {
-    if number == 0 { Ok(value) } else { Err(Refusal::of(number)) }
+    if number == 0 {
+        Ok(value)
+    } else {
+        Err(Refusal::of(number))
+    }
 }
 
 /// A model's size: the prime p and the degree n.
@@ -90,71 +37,84 @@ pub struct Size {
     pub n: u32,
 }
 
-/// out := u(S) modulo T.
+/// out := u(S) modulo T. Refusals 1 to 4.
+///
+/// ```
+/// let mut out = [0; 2];
+/// yokebean::substitute(yokebean::Size { p: 3, n: 2 }, &[2, 1], &[1, 2], &[1, 1], &mut out)?;
+/// assert_eq!(out, [2, 2]); // 1 + (1 + 2X)
+/// # Ok::<(), yokebean::Refusal>(())
+/// ```
 pub fn substitute(size: Size, t: &[u16], s: &[u16], u: &[u16], out: &mut [u16]) -> Result<(), Refusal> {
     let Size { p, n } = size;
-    // each pointer comes with the length of its own slice, here and below
+    // each pointer comes with the length of its own slice, and no slice overlaps one that is written, here and below
     let number = unsafe {
         raw::yokebean_substitute(p, n, t.as_ptr(), t.len(), s.as_ptr(), s.len(), u.as_ptr(), u.len(), out.as_mut_ptr(), out.len())
     };
     answer(number, ())
 }
 
-/// out := u·v modulo T.
+/// out := u·v modulo T. Refusals 1 to 4.
+///
+/// ```
+/// let mut out = [0; 2];
+/// yokebean::product(yokebean::Size { p: 3, n: 2 }, &[1, 0], &[0, 1], &[1, 1], &mut out)?;
+/// assert_eq!(out, [2, 1]); // X·(1 + X) = X + X², and X² = −1
+/// # Ok::<(), yokebean::Refusal>(())
+/// ```
 pub fn product(size: Size, t: &[u16], u: &[u16], v: &[u16], out: &mut [u16]) -> Result<(), Refusal> {
     let Size { p, n } = size;
-    let number = unsafe {
-        raw::yokebean_product(p, n, t.as_ptr(), t.len(), u.as_ptr(), u.len(), v.as_ptr(), v.len(), out.as_mut_ptr(), out.len())
-    };
+    let number =
+        unsafe { raw::yokebean_product(p, n, t.as_ptr(), t.len(), u.as_ptr(), u.len(), v.as_ptr(), v.len(), out.as_mut_ptr(), out.len()) };
     answer(number, ())
 }
 
-/// out := u^k modulo T.
+/// out := u^k modulo T. Refusals 1 to 4.
+///
+/// ```
+/// let mut out = [0; 2];
+/// yokebean::power(yokebean::Size { p: 3, n: 2 }, &[1, 0], &[1, 1], 8, &mut out)?;
+/// assert_eq!(out, [1, 0]); // the group of the field of 9 elements has order 8
+/// # Ok::<(), yokebean::Refusal>(())
+/// ```
 pub fn power(size: Size, t: &[u16], u: &[u16], k: u64, out: &mut [u16]) -> Result<(), Refusal> {
     let Size { p, n } = size;
     let number = unsafe { raw::yokebean_power(p, n, t.as_ptr(), t.len(), u.as_ptr(), u.len(), k, out.as_mut_ptr(), out.len()) };
     answer(number, ())
 }
 
-/// Whether the four congruences hold; then u ↦ u(S) mod T2 and u ↦ u(R) mod T1 are inverse isomorphisms.
+/// The checker: whether the four congruences hold; then u ↦ u(S) mod T2 and u ↦ u(R) mod T1 are inverse isomorphisms. Refusals 1, 2, 3, 4, 8.
+///
+/// ```
+/// use yokebean::{check, Refusal, Size};
+///
+/// let (size, t1, t2) = (Size { p: 3, n: 2 }, [1, 0], [2, 1]);
+/// assert_eq!(check(size, &t1, &t2, &[2, 1], &[1, 1]), Ok(()));
+/// assert_eq!(check(size, &t1, &t2, &[2, 1], &[1, 2]), Err(Refusal::Congruence));
+/// ```
 pub fn check(size: Size, t1: &[u16], t2: &[u16], s: &[u16], r: &[u16]) -> Result<(), Refusal> {
     let Size { p, n } = size;
-    let number = unsafe {
-        raw::yokebean_check(p, n, t1.as_ptr(), t1.len(), t2.as_ptr(), t2.len(), s.as_ptr(), s.len(), r.as_ptr(), r.len())
-    };
+    let number =
+        unsafe { raw::yokebean_check(p, n, t1.as_ptr(), t1.len(), t2.as_ptr(), t2.len(), s.as_ptr(), s.len(), r.as_ptr(), r.len()) };
     answer(number, ())
 }
 
-/// Writes the pair of Algorithm 2.1.
+/// The finder: writes the pair of Allombert's Algorithm 2.1 into s and r, which have n words. Refusals 1 to 7.
+///
+/// ```
+/// let (mut s, mut r) = ([0; 3], [0; 3]);
+/// yokebean::find(yokebean::Size { p: 7, n: 3 }, &[5, 0, 0], &[4, 0, 0], &mut s, &mut r)?;
+/// assert_eq!((s, r), ([0, 0, 1], [0, 0, 5]));
+/// # Ok::<(), yokebean::Refusal>(())
+/// ```
 pub fn find(size: Size, t1: &[u16], t2: &[u16], s: &mut [u16], r: &mut [u16]) -> Result<(), Refusal> {
     let Size { p, n } = size;
-    let number = unsafe {
-        raw::yokebean_find(p, n, t1.as_ptr(), t1.len(), t2.as_ptr(), t2.len(), s.as_mut_ptr(), s.len(), r.as_mut_ptr(), r.len())
-    };
+    let number =
+        unsafe { raw::yokebean_find(p, n, t1.as_ptr(), t1.len(), t2.as_ptr(), t2.len(), s.as_mut_ptr(), s.len(), r.as_mut_ptr(), r.len()) };
     answer(number, ())
 }
 
-/// What a card is: kind 1 a job (T1, T2), kind 2 a pair (T1, T2, S, R).
-#[derive(Clone, Copy, Debug, PartialEq, Eq)]
-pub struct Card {
-    pub size: Size,
-    pub kind: u32,
-}
-
-/// Reads a card; its words go into the first places of `words`, which has 64.
-pub fn read_card(card: &[u8], words: &mut [u16]) -> Result<Card, Refusal> {
-    let found = unsafe { raw::yokebean_card_read(card.as_ptr(), card.len(), words.as_mut_ptr(), words.len()) };
-    answer(found.number, Card { size: Size { p: found.p, n: found.n }, kind: found.kind })
-}
-
-/// Writes a card into a list of exactly its length: (24 + 2·kind·n·w + 7) / 8 bytes, rounded down, where w is the number of binary digits of p − 1.
-pub fn write_card(card: Card, words: &[u16], out: &mut [u8]) -> Result<(), Refusal> {
-    let Card { size: Size { p, n }, kind } = card;
-    let number = unsafe { raw::yokebean_card_write(p, n, kind, words.as_ptr(), words.len(), out.as_mut_ptr(), out.len()) };
-    answer(number, ())
-}
-
-/// A session, by value: a refused call leaves the caller with the session it had.
+/// A session, by value: empty, loaded with two models, or paired as well. A refused call leaves the caller with the session it had.
 #[derive(Clone, Copy, Debug, PartialEq, Eq)]
 pub struct Session(raw::Session);
 
@@ -166,6 +126,10 @@ impl Default for Session {
 
 impl Session {
     /// A new session is empty.
+    ///
+    /// ```
+    /// assert_eq!(yokebean::Session::new().find(), Err(yokebean::Refusal::SessionEmpty));
+    /// ```
     pub fn new() -> Self {
         Session(unsafe { raw::yokebean_session_new() })
     }
@@ -174,35 +138,130 @@ impl Session {
         answer(step.number, Session(step.session))
     }
 
-    /// Empty to loaded.
+    /// Empty to loaded. Refusals 23, 1 to 4.
+    ///
+    /// ```
+    /// use yokebean::{Refusal, Session, Size};
+    ///
+    /// let loaded = Session::new().load(Size { p: 3, n: 2 }, &[1, 0], &[2, 1])?;
+    /// assert_eq!(loaded.load(Size { p: 3, n: 2 }, &[1, 0], &[2, 1]), Err(Refusal::SessionNotEmpty));
+    /// # Ok::<(), Refusal>(())
+    /// ```
     pub fn load(self, size: Size, t1: &[u16], t2: &[u16]) -> Result<Self, Refusal> {
         Self::next(unsafe { raw::yokebean_session_load(self.0, size.p, size.n, t1.as_ptr(), t1.len(), t2.as_ptr(), t2.len()) })
     }
 
-    /// Loaded to paired, if the checker accepts.
+    /// Loaded to paired, if the checker accepts. Refusals 21, 24, 3, 4, 8.
+    ///
+    /// ```
+    /// use yokebean::{Refusal, Session, Size};
+    ///
+    /// let loaded = Session::new().load(Size { p: 3, n: 2 }, &[1, 0], &[2, 1])?;
+    /// assert!(loaded.propose(&[2, 1], &[1, 1]).is_ok());
+    /// assert_eq!(loaded.propose(&[2, 1], &[1, 2]), Err(Refusal::Congruence));
+    /// # Ok::<(), Refusal>(())
+    /// ```
     pub fn propose(self, s: &[u16], r: &[u16]) -> Result<Self, Refusal> {
         Self::next(unsafe { raw::yokebean_session_propose(self.0, s.as_ptr(), s.len(), r.as_ptr(), r.len()) })
     }
 
-    /// Loaded to paired, with the finder's pair.
+    /// Loaded to paired, with the finder's pair. Refusals 21, 24, 5, 6, 7.
+    ///
+    /// ```
+    /// use yokebean::{Refusal, Session, Size};
+    ///
+    /// let loaded = Session::new().load(Size { p: 3, n: 2 }, &[1, 0], &[2, 1])?;
+    /// assert_eq!(loaded.find(), loaded.propose(&[1, 2], &[1, 2]));
+    /// # Ok::<(), Refusal>(())
+    /// ```
     pub fn find(self) -> Result<Self, Refusal> {
         Self::next(unsafe { raw::yokebean_session_find(self.0) })
     }
 
-    /// Converts a table of residues modulo T1 into residues modulo T2.
+    /// Converts a table of residues modulo T1, group of n words by group, into residues modulo T2: u ↦ u(S). Refusals 21, 22, 9, 10, 4.
+    ///
+    /// ```
+    /// use yokebean::{Session, Size};
+    ///
+    /// let paired = Session::new().load(Size { p: 3, n: 2 }, &[1, 0], &[2, 1])?.find()?;
+    /// let mut image = [0; 2];
+    /// paired.forward(&[1, 1], &mut image)?;
+    /// assert_eq!(image, [2, 2]);
+    /// # Ok::<(), yokebean::Refusal>(())
+    /// ```
     pub fn forward(self, table: &[u16], out: &mut [u16]) -> Result<(), Refusal> {
         let step = unsafe { raw::yokebean_session_forward(self.0, table.as_ptr(), table.len(), out.as_mut_ptr(), out.len()) };
         answer(step.number, ())
     }
 
-    /// Converts a table of residues modulo T2 into residues modulo T1.
+    /// Converts a table of residues modulo T2, group of n words by group, into residues modulo T1: u ↦ u(R). Refusals 21, 22, 9, 10, 4.
+    ///
+    /// ```
+    /// use yokebean::{Session, Size};
+    ///
+    /// let paired = Session::new().load(Size { p: 3, n: 2 }, &[1, 0], &[2, 1])?.find()?;
+    /// let mut image = [0; 2];
+    /// paired.back(&[2, 2], &mut image)?;
+    /// assert_eq!(image, [1, 1]);
+    /// # Ok::<(), yokebean::Refusal>(())
+    /// ```
     pub fn back(self, table: &[u16], out: &mut [u16]) -> Result<(), Refusal> {
         let step = unsafe { raw::yokebean_session_back(self.0, table.as_ptr(), table.len(), out.as_mut_ptr(), out.len()) };
         answer(step.number, ())
     }
 
-    /// Any state to empty.
+    /// Any state to empty; never refused.
+    ///
+    /// ```
+    /// use yokebean::{Session, Size};
+    ///
+    /// let loaded = Session::new().load(Size { p: 3, n: 2 }, &[1, 0], &[2, 1])?;
+    /// assert_eq!(loaded.clear(), Session::new());
+    /// # Ok::<(), yokebean::Refusal>(())
+    /// ```
     pub fn clear(self) -> Self {
         Session(unsafe { raw::yokebean_session_clear(self.0) }.session)
+    }
+}
+
+/// What a card is: kind 1 a job (T1, T2), kind 2 a pair card (T1, T2, S, R).
+#[derive(Clone, Copy, Debug, PartialEq, Eq)]
+pub struct Card {
+    pub size: Size,
+    pub kind: u32,
+}
+
+impl Card {
+    /// Reads a card; its coefficients go into the first places of `words`, which has 64, the rest become 0. Refusals 3, 11, 1, 12, 11, 13, 4.
+    ///
+    /// ```
+    /// use yokebean::{Card, Size};
+    ///
+    /// let mut words = [9; 64];
+    /// let card = Card::read(&[0x00, 0x03, 0x12, 0x49, 0x66], &mut words)?;
+    /// assert_eq!(card, Card { size: Size { p: 3, n: 2 }, kind: 2 });
+    /// assert_eq!(words[..9], [1, 0, 2, 1, 1, 2, 1, 2, 0]);
+    /// # Ok::<(), yokebean::Refusal>(())
+    /// ```
+    pub fn read(bytes: &[u8], words: &mut [u16]) -> Result<Self, Refusal> {
+        let found = unsafe { raw::yokebean_card_read(bytes.as_ptr(), bytes.len(), words.as_mut_ptr(), words.len()) };
+        answer(found.number, Card { size: Size { p: found.p, n: found.n }, kind: found.kind })
+    }
+
+    /// Writes the card of 2n (kind 1) or 4n (kind 2) coefficients into a list of exactly its length: (24 + 2·kind·n·w + 7) / 8 bytes, rounded
+    /// down, where w is the number of binary digits of p − 1. Refusals 1, 2, 12, 3, 4.
+    ///
+    /// ```
+    /// use yokebean::{Card, Size};
+    ///
+    /// let mut bytes = [0; 4];
+    /// Card { size: Size { p: 3, n: 2 }, kind: 1 }.write(&[1, 0, 2, 1], &mut bytes)?;
+    /// assert_eq!(bytes, [0x00, 0x03, 0x11, 0x49]);
+    /// # Ok::<(), yokebean::Refusal>(())
+    /// ```
+    pub fn write(self, words: &[u16], bytes: &mut [u8]) -> Result<(), Refusal> {
+        let Card { size: Size { p, n }, kind } = self;
+        let number = unsafe { raw::yokebean_card_write(p, n, kind, words.as_ptr(), words.len(), bytes.as_mut_ptr(), bytes.len()) };
+        answer(number, ())
     }
 }

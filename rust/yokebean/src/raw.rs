@@ -1,19 +1,10 @@
-//! The calls of include/yokebean.h, as C has them.
+//! The calls of include/yokebean.h, as C has them. Each list is a pointer and the number of its words, and must be as many words long; a list that
+//! a call writes must not overlap another list of the call.
 
 type Words = *const u16;
 type Lent = *mut u16;
 
-/// A card's answer.
-#[repr(C)]
-#[derive(Clone, Copy, Debug, PartialEq, Eq)]
-pub struct Card {
-    pub number: u32,
-    pub p: u32,
-    pub n: u32,
-    pub kind: u32,
-}
-
-/// A session's value: state 0 empty, 1 loaded, 2 paired; the first n words of each array count.
+/// A session's value: state 0 is empty, 1 loaded, 2 paired; the first n words of each array count.
 #[repr(C)]
 #[derive(Clone, Copy, Debug, PartialEq, Eq)]
 pub struct Session {
@@ -26,7 +17,7 @@ pub struct Session {
     pub r: [u16; 16],
 }
 
-/// A session call's answer.
+/// A session call's answer: the number and the next session; refused, the session that the call took.
 #[repr(C)]
 #[derive(Clone, Copy, Debug, PartialEq, Eq)]
 pub struct Step {
@@ -34,14 +25,25 @@ pub struct Step {
     pub session: Session,
 }
 
+/// The reader's answer.
+#[repr(C)]
+#[derive(Clone, Copy, Debug, PartialEq, Eq)]
+pub struct Card {
+    pub number: u32,
+    pub p: u32,
+    pub n: u32,
+    pub kind: u32,
+}
+
+#[rustfmt::skip]
 extern "C" {
     pub fn yokebean_substitute(p: u32, n: u32, t: Words, t_len: usize, s: Words, s_len: usize, u: Words, u_len: usize, out: Lent, out_len: usize) -> u32;
     pub fn yokebean_product(p: u32, n: u32, t: Words, t_len: usize, u: Words, u_len: usize, v: Words, v_len: usize, out: Lent, out_len: usize) -> u32;
     pub fn yokebean_power(p: u32, n: u32, t: Words, t_len: usize, u: Words, u_len: usize, k: u64, out: Lent, out_len: usize) -> u32;
+
     pub fn yokebean_check(p: u32, n: u32, t1: Words, t1_len: usize, t2: Words, t2_len: usize, s: Words, s_len: usize, r: Words, r_len: usize) -> u32;
     pub fn yokebean_find(p: u32, n: u32, t1: Words, t1_len: usize, t2: Words, t2_len: usize, s: Lent, s_len: usize, r: Lent, r_len: usize) -> u32;
-    pub fn yokebean_card_read(card: *const u8, card_len: usize, words: Lent, words_len: usize) -> Card;
-    pub fn yokebean_card_write(p: u32, n: u32, kind: u32, words: Words, words_len: usize, card: *mut u8, card_len: usize) -> u32;
+
     pub fn yokebean_session_new() -> Session;
     pub fn yokebean_session_load(session: Session, p: u32, n: u32, t1: Words, t1_len: usize, t2: Words, t2_len: usize) -> Step;
     pub fn yokebean_session_propose(session: Session, s: Words, s_len: usize, r: Words, r_len: usize) -> Step;
@@ -49,4 +51,7 @@ extern "C" {
     pub fn yokebean_session_forward(session: Session, table: Words, table_len: usize, out: Lent, out_len: usize) -> Step;
     pub fn yokebean_session_back(session: Session, table: Words, table_len: usize, out: Lent, out_len: usize) -> Step;
     pub fn yokebean_session_clear(session: Session) -> Step;
+
+    pub fn yokebean_card_read(bytes: *const u8, bytes_len: usize, words: Lent, words_len: usize) -> Card;
+    pub fn yokebean_card_write(p: u32, n: u32, kind: u32, words: Words, words_len: usize, bytes: *mut u8, bytes_len: usize) -> u32;
 }

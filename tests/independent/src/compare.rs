@@ -29,7 +29,7 @@ impl Tally {
             *calls.entry(call).or_default() += &format!(" {number}:{count}");
         }
         for (call, counts) in calls {
-            println!("{call:<12}{counts}");
+            println!("{call:<16}{counts}");
         }
         for number in [0, 1, 2, 3, 4, 5, 6, 7, 8, 9, 10, 11, 12, 13, 21, 22, 23, 24] {
             assert!(self.seen.keys().any(|(_, seen)| *seen == number), "number {number} never occurred");
@@ -37,4 +37,3 @@ impl Tally {
         println!("{} calls agree with the independent implementation", self.seen.values().sum::<u64>());
     }
 }
-

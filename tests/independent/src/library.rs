@@ -20,7 +20,7 @@ pub fn propose(session: Session, s: &[u16], r: &[u16]) -> Step {
     unsafe { raw::yokebean_session_propose(session, s.as_ptr(), s.len(), r.as_ptr(), r.len()) }
 }
 
-pub fn find_pair(session: Session) -> Step {
+pub fn find(session: Session) -> Step {
     unsafe { raw::yokebean_session_find(session) }
 }
 

@@ -58,7 +58,7 @@ impl Random {
         }
     }
 
-    /// A list of n words below p; of another length, or with a word of p or more, once in a while.
+    /// A list of n words below p; where `damaged` says so, of another length or with a word of p or more once in a while.
     pub fn words(&mut self, p: u32, n: u32, damaged: bool) -> Vec<u16> {
         let mut length = n.min(64) as usize;
         if damaged && self.once_in(12) {

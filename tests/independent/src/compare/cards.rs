@@ -1,10 +1,10 @@
-//! Reader and writer: valid cards of every n and many p, every single-bit change of some cards, lengths one off, random bytes.
+//! Reader and writer: valid cards of every n and many p, every change of a single bit in some of them, lengths one off, random bytes.
 
 use super::Tally;
 use crate::document::card;
 use crate::library;
 use crate::random::Random;
-use yokebean::{raw, write_card, Card, Size};
+use yokebean::{raw, Card, Size};
 
 fn compare_read(bytes: &[u8], lent: Vec<u16>, tally: &mut Tally) {
     let (number, fields, list) = match card::read(bytes, lent.len()) {
@@ -17,14 +17,14 @@ fn compare_read(bytes: &[u8], lent: Vec<u16>, tally: &mut Tally) {
     };
     let mut words = lent;
     let got = unsafe { raw::yokebean_card_read(bytes.as_ptr(), bytes.len(), words.as_mut_ptr(), words.len()) };
-    tally.compare("read_card", number, &bytes, &((got.number, (got.p, got.n, got.kind)), words), &((number, fields), list));
+    tally.compare("card_read", number, &bytes, &((got.number, (got.p, got.n, got.kind)), words), &((number, fields), list));
 }
 
 fn compare_write(p: u32, n: u32, kind: u32, words: &[u16], lent: Vec<u8>, tally: &mut Tally) {
     let want = card::write(p, n, kind, words, &lent);
     let mut bytes = lent;
-    let number = library::number(write_card(Card { size: Size { p, n }, kind }, words, &mut bytes));
-    tally.compare("write_card", want.0, &(p, n, kind, words), &(number, bytes), &want);
+    let number = library::number(Card { size: Size { p, n }, kind }.write(words, &mut bytes));
+    tally.compare("card_write", want.0, &(p, n, kind, words), &(number, bytes), &want);
 }
 
 fn bytes(random: &mut Random, count: usize) -> Vec<u8> {

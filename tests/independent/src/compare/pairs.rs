@@ -1,6 +1,6 @@
 //! Checker and finder. Pairs that are accepted come from the finder, from conjugates of a found pair and, over moduli that have divisors,
 //! from a linear change of the variable; pairs that are not come from these by one changed word, from maps that preserve sums only, and from
-//! maps that agree with an isomorphism on a subfield.
+//! two isomorphisms that do not undo each other.
 
 use super::Tally;
 use crate::document::{self, model::Model, polynomial};
@@ -21,7 +21,7 @@ struct Case {
 /// A monic modulus without divisors where that is asked for and one turns up soon; else any.
 fn modulus(random: &mut Random, p: u32, n: u32, irreducible: bool) -> Vec<u16> {
     if random.once_in(5) {
-        // X^n − a
+        // X^n + a
         let mut t = vec![0; n as usize];
         t[0] = random.below(p.into()) as u16;
         if !irreducible || !polynomial::has_divisor(p, &t) {
@@ -38,12 +38,12 @@ fn modulus(random: &mut Random, p: u32, n: u32, irreducible: bool) -> Vec<u16> {
     t
 }
 
-/// T(aX + b) up to a factor, monic, with S = (X − b)/a and R = aX + b: accepted whether T has divisors or not.
+/// T2 is T1(aX + b) up to a factor, with S = aX + b and R = (X − b)/a: accepted whether T1 has divisors or not.
 fn changed_variable(random: &mut Random, p: u32, n: u32, t1: Vec<u16>) -> Case {
     let a = 1 + random.below(u64::from(p) - 1);
     let b = random.below(p.into());
     let inverse = polynomial::power(p.into(), a, u64::from(p) - 2);
-    // T2(X) = a^(−n)·T1(aX + b), worked out in the ring without a modulus of degree n: by Horner with polynomials of growing degree
+    // T2 = a^(−n)·T1(aX + b), worked out without a modulus: by Horner's rule, on polynomials of growing degree
     let prime = u64::from(p);
     let mut f = vec![1u64];
     for &c in t1.iter().rev() {
@@ -57,7 +57,7 @@ fn changed_variable(random: &mut Random, p: u32, n: u32, t1: Vec<u16>) -> Case {
     }
     let scale = polynomial::power(prime, inverse, n.into());
     let t2: Vec<u16> = f[..n as usize].iter().map(|&x| (x * scale % prime) as u16).collect();
-    // x1 ↦ a·x2 + b, x2 ↦ (x1 − b)/a
+    // the forward map sends X to aX + b, the backward map X to (X − b)/a
     let linear = |model: &Model, factor: u64, constant: u64| model.sum(&model.scaled(factor, &model.x()), &model.constant(constant));
     let s = linear(&Model::new(p, &t2), a, b);
     let r = linear(&Model::new(p, &t1), inverse, (prime - b) % prime * inverse % prime);
@@ -70,7 +70,7 @@ fn found(p: u32, n: u32, t1: Vec<u16>, t2: Vec<u16>) -> Case {
     Case { p, n, t1, t2, s, r }
 }
 
-/// S^p and the R that belongs to it: the map followed by the p-th power.
+/// S^p, which is the forward map followed by the p-th power, and the R that undoes it in a field: R^(p^(n−1)).
 fn conjugate(case: &mut Case) {
     let (k1, k2) = (Model::new(case.p, &case.t1), Model::new(case.p, &case.t2));
     case.s = k2.power(&case.s, case.p.into());
@@ -111,7 +111,7 @@ fn damage(random: &mut Random, case: &mut Case) {
     }
 }
 
-/// S^p with the old R: the two agree with inverse isomorphisms on the constants, and on more where they share a subfield.
+/// S^p with the old R: one map after the other is then the p-th power, which fixes the constants but, in a field with n > 1, not X.
 fn half_conjugate(case: &mut Case) {
     case.s = Model::new(case.p, &case.t2).power(&case.s, case.p.into());
 }

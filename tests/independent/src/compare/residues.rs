@@ -3,8 +3,8 @@
 use super::Tally;
 use crate::document::{model::Model, number};
 use crate::library;
-use yokebean::{power, product, substitute, Size};
 use crate::random::Random;
+use yokebean::{power, product, substitute, Size};
 
 type Answer = (u32, Vec<u16>);
 

@@ -117,13 +117,13 @@ fn compare_convert(random: &mut Random, taken: Value, forward: bool, tally: &mut
     };
     let want = (Step { number, session: taken }, list);
     let got = (library::convert(taken, forward, &input, &mut output), output);
-    tally.compare(if forward { "forward" } else { "back" }, number, &(taken, input), &got, &want);
+    tally.compare(if forward { "session_forward" } else { "session_back" }, number, &(taken, input), &got, &want);
 }
 
 pub fn run(calls: u64, tally: &mut Tally) {
     let random = &mut Random::new(0x94d0_49bb_1331_11eb);
     let mut current = library::new();
-    tally.compare("new", 0, &(), &current, &value(&Document::Empty));
+    tally.compare("session_new", 0, &(), &current, &value(&Document::Empty));
     for _ in 0..calls {
         let session = counts_as(&current);
         if random.once_in(15) {
@@ -133,9 +133,11 @@ pub fn run(calls: u64, tally: &mut Tally) {
         match random.below(12) {
             0 | 1 => {
                 let (p, n, t1, t2) = models(random);
-                let (p, n) = (if random.once_in(12) { random.modulus_number() } else { p }, if random.once_in(12) { random.degree() } else { n });
+                let (p, n) =
+                    (if random.once_in(12) { random.modulus_number() } else { p }, if random.once_in(12) { random.degree() } else { n });
                 let t2 = if random.once_in(10) { random.words(p, n, true) } else { t2 };
-                current = compare_step("load", &current, session.load(p, n, &t1, &t2), library::load(current, p, n, &t1, &t2), tally);
+                current =
+                    compare_step("session_load", &current, session.load(p, n, &t1, &t2), library::load(current, p, n, &t1, &t2), tally);
             }
             2 => {
                 let (s, r) = match &session {
@@ -143,13 +145,18 @@ pub fn run(calls: u64, tally: &mut Tally) {
                         let pair = finder::pair(*p, t1, t2);
                         (pair.s, pair.r)
                     }
-                    _ => (random.words(current.p.max(2), current.n.clamp(1, 16), true), random.words(current.p.max(2), current.n.clamp(1, 16), true)),
+                    _ => (
+                        random.words(current.p.max(2), current.n.clamp(1, 16), true),
+                        random.words(current.p.max(2), current.n.clamp(1, 16), true),
+                    ),
                 };
                 let r = if random.once_in(4) { random.words(current.p.max(2), current.n.clamp(1, 16), true) } else { r };
-                current = compare_step("propose", &current, session.propose(&s, &r), library::propose(current, &s, &r), tally);
+                current = compare_step("session_propose", &current, session.propose(&s, &r), library::propose(current, &s, &r), tally);
             }
-            3 => current = compare_step("find_pair", &current, session.find(), library::find_pair(current), tally),
-            4 if random.once_in(3) => current = compare_step("clear", &current, Ok(Document::Empty), library::clear(current), tally),
+            3 => current = compare_step("session_find", &current, session.find(), library::find(current), tally),
+            4 if random.once_in(3) => {
+                current = compare_step("session_clear", &current, Ok(Document::Empty), library::clear(current), tally)
+            }
             _ => {
                 let forward = random.once_in(2);
                 compare_convert(random, current, forward, tally);

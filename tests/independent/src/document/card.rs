@@ -12,7 +12,7 @@ fn word_count(n: u32, kind: u32) -> usize {
 }
 
 fn card_length(p: u32, n: u32, kind: u32) -> usize {
-    (24 + word_count(n, kind) * width(p)).div_ceil(8)
+    (24 + word_count(n, kind) * width(p) + 7) / 8
 }
 
 fn bits(p: u32, n: u32, kind: u32, words: &[u16]) -> String {

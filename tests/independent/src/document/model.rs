@@ -58,7 +58,11 @@ impl<'a> Model<'a> {
     pub fn power(&self, u: &[u16], k: u64) -> Residue {
         (0..64 - k.leading_zeros()).rev().fold(self.constant(1), |value, bit| {
             let square = self.product(&value, &value);
-            if k >> bit & 1 == 1 { self.product(&square, u) } else { square }
+            if k >> bit & 1 == 1 {
+                self.product(&square, u)
+            } else {
+                square
+            }
         })
     }
 

@@ -13,7 +13,11 @@ fn trimmed(mut f: Polynomial) -> Polynomial {
 pub fn power(p: u64, a: u64, k: u64) -> u64 {
     (0..64).rev().fold(1 % p, |value, bit| {
         let square = value * value % p;
-        if k >> bit & 1 == 1 { square * a % p } else { square }
+        if k >> bit & 1 == 1 {
+            square * a % p
+        } else {
+            square
+        }
     })
 }
 

@@ -13,7 +13,11 @@ pub enum Session {
 pub type Step = Result<Session, u32>;
 
 fn accepted(number: u32, next: impl FnOnce() -> Session) -> Step {
-    if number == 0 { Ok(next()) } else { Err(number) }
+    if number == 0 {
+        Ok(next())
+    } else {
+        Err(number)
+    }
 }
 
 impl Session {
@@ -53,8 +57,10 @@ impl Session {
 
     /// A conversion's number, and the output where it is 0.
     pub fn convert(&self, forward: bool, table: &[u16], lent: usize) -> Result<Vec<u16>, u32> {
-        let Session::Paired { p, n, t1, t2, s, r } = self else {
-            return Err(if *self == Session::Empty { 21 } else { 22 });
+        let (p, n, t1, t2, s, r) = match self {
+            Session::Empty => return Err(21),
+            Session::Loaded { .. } => return Err(22),
+            Session::Paired { p, n, t1, t2, s, r } => (p, n, t1, t2, s, r),
         };
         let n = *n as usize;
         if table.len() > 32_768 || table.len() % n != 0 {

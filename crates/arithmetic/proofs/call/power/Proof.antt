@@ -1,4 +1,4 @@
--- The call `power` meets its contract.
+-- `power`: the output is written where no refusal applies, and left where one does.
 use borrow.Author.Needs.{needs}
 use Rattle.refusal.proofs.Written.{output-new, output-old}
 use Rattle.arithmetic.proofs.call.power.Statement.{statement}

@@ -1,17 +1,17 @@
--- `write_power` meets its contract.
+-- `write_power`: no refusal applies, so the arrays hold the lists, and the result fits the list lent.
 use borrow.Author.Needs.{needs}
 use Rattle.arithmetic.proofs.Answers.{first-short, second-short, output-short, in-range, first-holds, second-holds, power-stores, power-stored}
 use Rattle.arithmetic.proofs.call.write_power.Statement.{statement}
 use Rattle.arithmetic.proofs.call.write_power.Tie as tie
 
 load-requires : tie.Need-load-requires
-load-requires c κs = search first-short
+load-requires c κs = search (first-short, second-short)
 
 load-requires-2 : tie.Need-load-requires-2
-load-requires-2 c κs = search second-short
+load-requires-2 c κs = search (first-short, second-short)
 
 power-requires : tie.Need-power-requires
-power-requires c κs = (search in-range, (search first-holds, search second-holds))
+power-requires c κs = (search in-range, (search (first-holds, second-holds), search (first-holds, second-holds)))
 
 store-requires : tie.Need-store-requires
 store-requires c κs = (search output-short, search power-stores)

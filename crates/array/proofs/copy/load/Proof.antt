@@ -1,4 +1,4 @@
--- `load` meets its contract. Before turn j the first j words are copied.
+-- `load`: before turn j the first j words are copied.
 use borrow.Author.Needs.{needs}
 use mathlib.Core.Path.{_≡_}
 use Prim.Native.Nat.{_-_, _≤_}

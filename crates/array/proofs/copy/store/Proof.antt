@@ -1,4 +1,4 @@
--- `store` meets its contract. Before turn j the first j words are copied, and the length is as it was.
+-- `store`: before turn j the first j words are copied, and the length is as it was.
 use borrow.Author.Needs.{needs}
 use mathlib.Core.Path.{_≡_, refl}
 use Prim.Native.Nat.{_-_, _≤_}

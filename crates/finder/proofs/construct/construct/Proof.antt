@@ -1,4 +1,4 @@
--- `construct` meets its contract: 5 comes first, and otherwise n divides p − 1.
+-- `construct`: 5 comes first, and otherwise n divides p − 1.
 use borrow.Author.Needs.{needs}
 use Rattle.finder.proofs.Constructed.{admissible, refused-degree}
 use Rattle.finder.proofs.construct.construct.Statement.{statement}

@@ -1,4 +1,4 @@
--- `from_eigenvectors` meets its contract: a modulus without an eigenvector is refused, T1 before T2; otherwise c exists.
+-- `from_eigenvectors`: a modulus without an eigenvector is refused, T1 before T2; otherwise c exists.
 use borrow.Author.Needs.{needs}
 use Rattle.finder.proofs.Constructed.{zeta-has-order, refused-first, refused-second, found-answer}
 use Rattle.finder.proofs.construct.from_eigenvectors.Statement.{statement}

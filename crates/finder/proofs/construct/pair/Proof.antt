@@ -1,4 +1,4 @@
--- `pair` meets its contract: the system for R is regular.
+-- `pair`: the system for R is regular.
 use borrow.Author.Needs.{needs}
 use Rattle.finder.proofs.Constructed.{zeta-has-order, root-of-ratio-solvable, choices, forward-holds, forward-independent, pair-is}
 use Rattle.finder.proofs.construct.pair.Statement.{statement}

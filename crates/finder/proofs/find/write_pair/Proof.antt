@@ -1,4 +1,4 @@
--- `write_pair` meets its contract: the lists lent change only where the number is 0.
+-- `write_pair`: the lists lent change only where the number is 0.
 use borrow.Author.Needs.{needs}
 use Rattle.finder.proofs.FindAnswer.{kept, out-short, forward-stores, forward-stored, backward-stores, backward-stored, number-of}
 use Rattle.finder.proofs.find.write_pair.Statement.{statement}
@@ -8,10 +8,10 @@ answer-requires : tie.Need-answer-requires
 answer-requires c κs = search needs
 
 store-requires : tie.Need-store-requires
-store-requires c κs = (search out-short, search forward-stores)
+store-requires c κs = (search out-short, search (forward-stores, backward-stores))
 
 store-requires-2 : tie.Need-store-requires-2
-store-requires-2 c κs = (search out-short, search backward-stores)
+store-requires-2 c κs = (search out-short, search (forward-stores, backward-stores))
 
 same-length : tie.Need-same-length
 same-length c = search needs

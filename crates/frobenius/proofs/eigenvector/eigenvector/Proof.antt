@@ -1,4 +1,4 @@
--- `eigenvector` meets its contract: the kernel has only 0, or a vector that decides.
+-- `eigenvector`: the kernel has only 0, or a vector that decides.
 use borrow.Author.Needs.{needs}
 use Rattle.frobenius.proofs.KernelAnswer.{answer-none, kernel-singular}
 use Rattle.frobenius.proofs.eigenvector.eigenvector.Statement.{statement}

@@ -1,4 +1,4 @@
--- `from_kernel` meets its contract: the vector of the kernel decides, and normalised it is α.
+-- `from_kernel`: the vector of the kernel decides, and normalised it is α.
 use borrow.Author.Needs.{needs}
 use Rattle.frobenius.proofs.KernelAnswer.{kernel-not-zero, vector-holds, power-holds, answer-found}
 use Rattle.frobenius.proofs.eigenvector.from_kernel.Statement.{statement}

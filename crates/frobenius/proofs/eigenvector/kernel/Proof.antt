@@ -1,4 +1,4 @@
--- `kernel` meets its contract: the solutions of the system are the u with u^p = z·u.
+-- `kernel`: the solutions of the system are the u with u^p = z·u.
 use borrow.Author.Needs.{needs}
 use Rattle.frobenius.proofs.FrobeniusSystem.{zero-holds, power-x-holds, power-x-square, kernel-square, kernel-is}
 use Rattle.frobenius.proofs.eigenvector.kernel.Statement.{statement}

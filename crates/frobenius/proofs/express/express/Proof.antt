@@ -1,4 +1,4 @@
--- `express` meets its contract: the system is regular, and its solution is the polynomial.
+-- `express`: the system is regular, and its solution is the polynomial.
 use borrow.Author.Needs.{needs}
 use Rattle.matrix.proofs.PowerMatrix.{square-of-powers}
 use Rattle.frobenius.proofs.PowerSystem.{right-side, expressed}

@@ -1,4 +1,4 @@
--- `normalise` meets its contract: the first word that is not 0 has an inverse.
+-- `normalise`: the first word that is not 0 has an inverse.
 use borrow.Author.Needs.{needs}
 use Rattle.frobenius.proofs.VectorScan.{firstNonZero-positive-word, firstNonZero-small-word, normalised-is}
 use Rattle.frobenius.proofs.vector.normalise.Statement.{statement}

@@ -1,22 +1,22 @@
--- `accepted` meets its contract: the arrays hold the lists.
+-- `accepted`: the arrays hold the lists.
 use Rattle.pair.proofs.Refusals.{short-1, short-2, short-s, short-r, in-range, holds-1, holds-2, holds-s, holds-r, arrays-accepted}
 use Rattle.pair.proofs.checker.accepted.Statement.{statement}
 use Rattle.pair.proofs.checker.accepted.Tie as tie
 
 load-requires : tie.Need-load-requires
-load-requires c κs = search short-1
+load-requires c κs = search (short-1, short-2, short-s, short-r)
 
 load-requires-2 : tie.Need-load-requires-2
-load-requires-2 c κs = search short-2
+load-requires-2 c κs = search (short-1, short-2, short-s, short-r)
 
 load-requires-3 : tie.Need-load-requires-3
-load-requires-3 c κs = search short-s
+load-requires-3 c κs = search (short-1, short-2, short-s, short-r)
 
 load-requires-4 : tie.Need-load-requires-4
-load-requires-4 c κs = search short-r
+load-requires-4 c κs = search (short-1, short-2, short-s, short-r)
 
 accepts-requires : tie.Need-accepts-requires
-accepts-requires c κs = (search in-range, (search holds-1, search holds-2, search holds-s, search holds-r))
+accepts-requires c κs = (search in-range, (search (holds-1, holds-2, holds-s, holds-r), search (holds-1, holds-2, holds-s, holds-r), search (holds-1, holds-2, holds-s, holds-r), search (holds-1, holds-2, holds-s, holds-r)))
 
 returns : tie.Need-returns
 returns c = search arrays-accepted

@@ -1,4 +1,4 @@
--- `check` meets its contract: a number of 1 to 4, or what the congruences decide.
+-- `check`: a number of 1 to 4, or what the congruences decide.
 use borrow.Author.Needs.{needs}
 use Rattle.pair.proofs.Refusals.{check-refused, check-given, check-accepted, check-eight}
 use Rattle.pair.proofs.checker.check.Statement.{statement}

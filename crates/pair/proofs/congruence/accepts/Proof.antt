@@ -1,4 +1,4 @@
--- `accepts` meets its contract: the two tests decide the four congruences.
+-- `accepts`: the two tests decide the four congruences.
 use borrow.Author.Needs.{needs}
 use Rattle.matrix.proofs.PowerMatrix.{square-of-powers}
 use Rattle.pair.proofs.TwoTests.{image-length, root-fails, inverse-decides}

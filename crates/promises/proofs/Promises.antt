@@ -1,0 +1,37 @@
+-- Every promise with its proof.
+use Rattle.answer.proofs.LongInput as Answer
+use Rattle.card.proofs.Theorem as Card
+use Rattle.finder.proofs.Theorem as Finder
+use Rattle.pair.proofs.Theorem as Pair
+use Rattle.quotient.proofs.Theorem as Quotient
+use Rattle.session.proofs.Theorem as Session
+use Rattle.promises.specs.Promises.{Promises}
+use Rattle.promises.proofs.Examples as Examples
+
+pub promises : Promises
+promises =
+    record {
+      every-run = Session.every-run;
+      refusals-change-nothing = Session.refusals-change-nothing;
+      counts-as-held = Session.counts-as-held;
+      accepted = Pair.checker-theorem;
+      group-by-group = Session.group-by-group;
+      back-again = Session.back-again;
+      residues-are-a-ring = Quotient.residues-are-a-ring;
+      modulus-vanishes = Quotient.modulus-vanishes;
+      product-is-remainder = Quotient.product-is-remainder;
+      substitution-is-sum = Quotient.substitution-is-sum;
+      substitution-preserves = Quotient.substitution-preserves;
+      residues-are-listed = Quotient.residues-are-listed;
+      divisor-test-is-exact = Quotient.divisor-test-is-exact;
+      demand-3 = Finder.demand-3;
+      nonzero-is-unit = Quotient.nonzero-is-unit;
+      power-of-unit = Quotient.power-of-unit;
+      irreducible-divisor = Quotient.irreducible-divisor;
+      frobenius-is-linear = Quotient.frobenius-is-linear;
+      written-reads-back = Card.written-reads-back;
+      read-is-written = Card.read-is-written;
+      longest-card = Card.longest-card;
+      long-input = Answer.long-input;
+      examples = Examples.examples;
+    }

@@ -1,0 +1,51 @@
+-- All that is promised, in the order of the three demands: read this file first. Each promise is a statement of the crate that it belongs to,
+-- for all p, n and lists; the file named beside it has the statement and explains its words. proofs/Promises.antt has one value of this
+-- record, so that no promise is without a proof.
+--
+-- That no call goes wrong or runs without end is not a statement here: the prover asks it of every function of every crate. Likewise each
+-- public call is proved equal to a definition: `check` to checkNumber, `find` to findNumber, findOutputS and findOutputR, and so on. The
+-- promises say what these definitions mean.
+use Rattle.answer.specs.Theorem.{LongInput}
+use Rattle.card.specs.Theorem.{WrittenReadsBack, ReadIsWritten, LongestCard}
+use Rattle.finder.specs.Theorem.{Demand3Theorem}
+use Rattle.pair.specs.Theorem.{CheckerTheorem}
+use Rattle.quotient.specs.DivisorTest.{DivisorTestIsExact}
+use Rattle.quotient.specs.Theorem.{ResiduesAreARing, ModulusVanishes, ProductIsRemainder, SubstitutionIsSum, SubstitutionPreserves, ResiduesAreListed, NonZeroIsUnit, PowerOfUnit, IrreducibleDivisor, FrobeniusIsLinear}
+use Rattle.session.specs.Theorem.{EveryRun, RefusalsChangeNothing, CountsAsHeld, GroupByGroup, BackAgain}
+use Rattle.promises.specs.Examples.{Examples}
+
+pub record Promises : Type 0 where
+  -- Demand 1 (session/specs/Theorem.antt): every list of calls makes of a new session one that is new, loaded or paired with an accepted pair; a
+  -- refused call gives back the session and leaves the lent lists; what calls make counts as what it holds
+  pub every-run : EveryRun
+  pub refusals-change-nothing : RefusalsChangeNothing
+  pub counts-as-held : CountsAsHeld
+  -- Demand 2. Accepted (pair/specs/Theorem.antt): 0 exactly when 1 to 4 do not apply and the four congruences hold. Found: demand 3 below.
+  -- Converted (session/specs/Theorem.antt): the k-th group of the output is the image of the k-th group of the input, for every k; and a table
+  -- comes back
+  pub accepted : CheckerTheorem
+  pub group-by-group : GroupByGroup
+  pub back-again : BackAgain
+  -- the words in which the congruences are said (quotient/specs/Theorem.antt, DivisorTest.antt): residues modulo T, the product, substitution, divisors
+  pub residues-are-a-ring : ResiduesAreARing
+  pub modulus-vanishes : ModulusVanishes
+  pub product-is-remainder : ProductIsRemainder
+  pub substitution-is-sum : SubstitutionIsSum
+  pub substitution-preserves : SubstitutionPreserves
+  pub residues-are-listed : ResiduesAreListed
+  pub divisor-test-is-exact : DivisorTestIsExact
+  -- Demand 3, whole (finder/specs/Theorem.antt)
+  pub demand-3 : Demand3Theorem
+  -- what makes it so (quotient/specs/Theorem.antt): fields of residues
+  pub nonzero-is-unit : NonZeroIsUnit
+  pub power-of-unit : PowerOfUnit
+  pub irreducible-divisor : IrreducibleDivisor
+  pub frobenius-is-linear : FrobeniusIsLinear
+  -- Cards (card/specs/Theorem.antt)
+  pub written-reads-back : WrittenReadsBack
+  pub read-is-written : ReadIsWritten
+  pub longest-card : LongestCard
+  -- The program's text (answer/specs/Theorem.antt)
+  pub long-input : LongInput
+  -- Small fields by hand, A to I (specs/Examples.antt)
+  pub examples : Examples

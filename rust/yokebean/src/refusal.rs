@@ -1,0 +1,77 @@
+//! Why a call was refused: document 01's numbers and their sentences, each said once.
+
+use std::fmt;
+
+/// The enum, its numbers and its sentences, from one list.
+macro_rules! refusals {
+    ($($number:literal $name:ident $sentence:literal)*) => {
+        /// Why a call was refused. Its `Display` is document 01's sentence.
+        ///
+        /// ```
+        /// use yokebean::{check, Refusal, Size};
+        ///
+        /// let refusal = check(Size { p: 9, n: 2 }, &[1, 0], &[2, 1], &[2, 1], &[1, 1]).unwrap_err();
+        /// assert_eq!(refusal, Refusal::NotPrime);
+        /// assert_eq!(refusal.to_string(), "p is below 2, above 65,535 or not prime");
+        /// ```
+        #[derive(Clone, Copy, Debug, PartialEq, Eq, Hash)]
+        #[non_exhaustive]
+        pub enum Refusal {
+            $(#[doc = concat!(stringify!($number), ": ", $sentence, ".")] $name,)*
+            /// A number that this layer does not know; no call gives one.
+            Other(u32),
+        }
+
+        impl Refusal {
+            pub(crate) fn of(number: u32) -> Self {
+                match number {
+                    $($number => Refusal::$name,)*
+                    _ => Refusal::Other(number),
+                }
+            }
+
+            /// Document 01's number.
+            ///
+            /// ```
+            /// assert_eq!(yokebean::Refusal::Congruence.number(), 8);
+            /// ```
+            pub fn number(self) -> u32 {
+                match self {
+                    $(Refusal::$name => $number,)*
+                    Refusal::Other(number) => number,
+                }
+            }
+        }
+
+        impl fmt::Display for Refusal {
+            fn fmt(&self, f: &mut fmt::Formatter) -> fmt::Result {
+                match self {
+                    $(Refusal::$name => f.write_str($sentence),)*
+                    Refusal::Other(number) => write!(f, "refusal {number}"),
+                }
+            }
+        }
+    };
+}
+
+refusals! {
+    1 NotPrime "p is below 2, above 65,535 or not prime"
+    2 Degree "n is not 1 to 16"
+    3 Length "a list of coefficients, read or written, or a card's output list has the wrong length"
+    4 Word "a coefficient is p or more"
+    5 DegreeDoesNotDivide "n does not divide p − 1"
+    6 FirstModulusFactors "T1 has a monic divisor of degree 1 to n − 1"
+    7 SecondModulusFactors "T2 has a monic divisor of degree 1 to n − 1"
+    8 Congruence "one of the four congruences fails"
+    9 TableLength "words to convert: above 32,768 or not a multiple of n"
+    10 OutputLength "output length differs from input length"
+    11 CardLength "card under 3 bytes, or not of its exact length"
+    12 CardKind "kind is neither 1 nor 2"
+    13 FillBit "a fill bit is 1"
+    21 SessionEmpty "the session is empty, and the call is propose, find, forward or back"
+    22 SessionWithoutPair "the session is loaded without a pair, and the call is forward or back"
+    23 SessionNotEmpty "the session is not empty, and the call is load"
+    24 SessionPaired "the session is paired, and the call is propose or find"
+}
+
+impl std::error::Error for Refusal {}
