@@ -39,15 +39,15 @@ module _ (p n number : ℕ) (words after : List ℕ) (found : JobWords p n words
       instead (printed-refusal number line h ∙ ap (λ k. printed k line) (found .number-is)) b
 
   module _ (none : number ≡ 0) where
-    goes-on : refuseFind p n (part n words 0) (part n words 1) ≡ 0
-    goes-on = sym (found .number-is) ∙ none
+    not-refused : refuseFind p n (part n words 0) (part n words 1) ≡ 0
+    not-refused = sym (found .number-is) ∙ none
 
     pub job-writable : Models p n (part n words 0) (part n words 1) → writeNumber p n 2 (take (4 * n) after) (replicate (cardLength p n 2) 0) ≡ 0
-    job-writable m = rw (found .words-are none) (pair-writable p n (part n words 0) (part n words 1) m goes-on)
+    job-writable m = rw (found .words-are none) (pair-writable p n (part n words 0) (part n words 1) m not-refused)
 
     pub job-line : (end : ℕ) (text : List ℕ) → Begins (pairText (card p n 2 (take (4 * n) after))) text end → Begins (jobText p n (part n words 0) (part n words 1)) text end
     unfolding jobText
-    job-line end text b = instead (ap (λ l. pairText (card p n 2 l)) (found .words-are none) ∙ printed-text _ _ goes-on) b
+    job-line end text b = instead (ap (λ l. pairText (card p n 2 l)) (found .words-are none) ∙ printed-text _ _ not-refused) b
 
 module _ (p n number : ℕ) (t1 t2 s r : List ℕ) (e : number ≡ checkNumber p n t1 t2 s r) (g : Given p n t1 t2 s r) where
   -- 1 to 4 do not apply, so what comes after 4 decides

@@ -40,7 +40,7 @@ module _ (n kind : ℕ) where
       by-kind false true = omega arith
       by-kind false false = omega arith
 
-  -- no words are carried exactly where the kind is refused
+  -- a card carries no words exactly where its kind is refused
   pub none-refused : 1 ≤ n → wordCount n kind ≡ 0 → badKind kind ≡ true
   unfolding badKind
   none-refused l h = by-kind (eqb kind 1) (eqb kind 2) h

@@ -11,7 +11,7 @@ use Rattle.text.specs.Digits.{decimal, lastDigits}
 use Rattle.text.specs.Text.{Appended}
 use Rattle.text.proofs.Append.{append-both}
 
--- k has at most k + 1 digits: more of them are no other
+-- k has at most k + 1 digits, so that every bound above k leaves out none
 all-digits : (f g k : ℕ) → k < f → k < g → lastDigits f k ≡ lastDigits g k
 unfolding lastDigits
 all-digits zero g k h l = absurd (omega arith)
@@ -33,6 +33,7 @@ decimal-more k h = rw (le-ltb k 10 h, lastDigits) (ap (λ ds. ds ++ ((48 + k % 1
 more-length : (k : ℕ) → 10 ≤ k → length (decimal k) ≡ length (decimal (k / 10)) + 1
 more-length k h = rw (decimal-more k h) (length-append (decimal (k / 10)) ((48 + k % 10) ∷ []))
 
+-- a number below 10^w has at most w digits
 pub decimal-length : (w k : ℕ) → k < 10 ^ suc w → length (decimal k) ≤ suc w
 decimal-length zero k h = rw (decimal-one k h) (omega arith)
 decimal-length (suc w) k h = by-size (decLt k 10) (decimal-length w (k / 10) (tenth-below (10 ^ suc w) (rw pow-suc at h)))
