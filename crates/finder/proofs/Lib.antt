@@ -1,8 +1,6 @@
 -- The finder's mathematics, demand 3, and the laws on which the proofs of its functions rest.
 pub mod Construction
 pub mod ChosenPair
-pub mod Values
+mod Values
 pub mod Findable
 pub mod Theorem
-pub mod Constructed
-pub mod FindAnswer

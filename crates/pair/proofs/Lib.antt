@@ -3,6 +3,4 @@ pub mod TwoCongruences
 pub mod Accepts
 pub mod Refusals
 pub mod Theorem
-pub mod DegreeOne
-pub mod Comparison
-pub mod TwoTests
+mod DegreeOne

@@ -1,12 +1,13 @@
--- The proof of what specs/Theorem.antt states: what the checker's answer 0 means.
+-- The proofs of what specs/Theorem.antt states.
 use mathlib.Core.Path.{ap, _∙_}
 use mathlib.Core.Bool.{not}
 use mathlib.Core.List.{[], _∷_}
 use Rattle.refusal.specs.Refusal.{refuse}
 use Rattle.refusal.proofs.Refusal.{refuse-none, sent-given, given-sent}
 use Rattle.pair.specs.Pair.{Congruences, accepts, checkNumberOr}
-use Rattle.pair.specs.Theorem.{Given, CheckerTheorem}
+use Rattle.pair.specs.Theorem.{Given, CheckerTheorem, DegreeOne}
 use Rattle.pair.proofs.Accepts.{accepts-congruences, congruences-accepted, isomorphisms-accepted}
+use Rattle.pair.proofs.DegreeOne.{x-is-constant, accepted-degree-one}
 use Rattle.pair.proofs.Refusals.{given, all-sent}
 use borrow.Author.Tests.{not-false}
 
@@ -22,3 +23,6 @@ checker-theorem p n t1 t2 s r = (
       given-sent p n (t1 ∷ t2 ∷ s ∷ r ∷ []) (t1 ∷ t2 ∷ s ∷ r ∷ []) _ (all-sent p n t1 t2 s r g)
       ∙ ap (λ b. refuse 8 (not b) 0) (accepts-congruences p t1 t2 s r c),
 )
+
+pub degree-one : DegreeOne
+degree-one p a b c d big ha hb hc hd = (x-is-constant big ha, accepted-degree-one big ha hb hc hd)

@@ -2,16 +2,21 @@
 -- beside it, in Residue.antt and Map.antt of the crate quotient, or in Prime.antt of the crate algebra.
 -- For every p, n and all lists: the answer is 0 exactly when p is a prime up to 65,535, n is 1 to 16, the four lists are n words below p
 -- and the four congruences hold; and then the two maps preserve sums, products and one on all residues, and each undoes the other.
---   Models p n t1 t2             p is a prime up to 65,535, n is 1 to 16, t1 and t2 are n words below p each
+--   Models p n t1 t2             (of refusal) p is a prime up to 65,535, n is 1 to 16, t1 and t2 are n words below p each
 --   Given p n t1 t2 s r          also s and r are n words below p each: what 1 to 4 do not refuse
 --   Isomorphisms p n t1 t2 s r   both maps preserve sums, products and one, and each undoes the other
+--   CheckerTheorem               what the answer 0 means
+--   DegreeOne                    "With n = 1 the residue of X is the constant −t0 mod p"; so for T1 = X + a and T2 = X + b exactly S = −a, R = −b is accepted
 use mathlib.Core.Path.{_≡_}
-use mathlib.Core.List.{List}
-use Prim.Native.Nat.{ℕ}
+use mathlib.Core.Bool.{true}
+use mathlib.Core.List.{List, [], _∷_}
+use mathlib.Core.Logic.{_↔_}
+use Prim.Native.Nat.{ℕ, _-_, _%_, _≤_, _<_}
 use Rattle.quotient.specs.Map.{Preserves, Undoes}
 use Rattle.array.specs.Words.{Words}
 use Rattle.refusal.specs.Models.{Models}
-use Rattle.pair.specs.Pair.{forward, backward, Congruences, checkNumber}
+use Rattle.pair.specs.Pair.{forward, backward, Congruences, accepts, checkNumber}
+use Rattle.quotient.specs.Residue.{residueOfX}
 
 pub record Given (p n : ℕ) (t1 t2 s r : List ℕ) : Type 0 where
   pub models : Models p n t1 t2
@@ -29,3 +34,9 @@ CheckerTheorem =
     (p n : ℕ) (t1 t2 s r : List ℕ)
     → (checkNumber p n t1 t2 s r ≡ 0 → Given p n t1 t2 s r × Congruences p t1 t2 s r × Isomorphisms p n t1 t2 s r)
     × (Given p n t1 t2 s r → Congruences p t1 t2 s r → checkNumber p n t1 t2 s r ≡ 0)
+
+abbrev pub DegreeOne : Type 0
+DegreeOne =
+    (p a b c d : ℕ) → 2 ≤ p → a < p → b < p → c < p → d < p
+    → (residueOfX p (a ∷ []) ≡ (p - a) % p ∷ [])
+    × ((accepts p (a ∷ []) (b ∷ []) (c ∷ []) (d ∷ []) ≡ true) ↔ ((c ≡ (p - a) % p) × (d ≡ (p - b) % p)))

@@ -15,6 +15,7 @@ promises =
       refusals-change-nothing = Session.refusals-change-nothing;
       counts-as-held = Session.counts-as-held;
       accepted = Pair.checker-theorem;
+      degree-one = Pair.degree-one;
       group-by-group = Session.group-by-group;
       back-again = Session.back-again;
       residues-are-a-ring = Quotient.residues-are-a-ring;

@@ -8,7 +8,7 @@
 use Rattle.answer.specs.Theorem.{LongInput}
 use Rattle.card.specs.Theorem.{WrittenReadsBack, ReadIsWritten, LongestCard}
 use Rattle.finder.specs.Theorem.{Demand3Theorem}
-use Rattle.pair.specs.Theorem.{CheckerTheorem}
+use Rattle.pair.specs.Theorem.{CheckerTheorem, DegreeOne}
 use Rattle.quotient.specs.DivisorTest.{DivisorTestIsExact}
 use Rattle.quotient.specs.Theorem.{ResiduesAreARing, ModulusVanishes, ProductIsRemainder, SubstitutionIsSum, SubstitutionPreserves, ResiduesAreListed, NonZeroIsUnit, PowerOfUnit, IrreducibleDivisor, FrobeniusIsLinear}
 use Rattle.session.specs.Theorem.{EveryRun, RefusalsChangeNothing, CountsAsHeld, GroupByGroup, BackAgain}
@@ -24,6 +24,7 @@ pub record Promises : Type 0 where
   -- Converted (session/specs/Theorem.antt): the k-th group of the output is the image of the k-th group of the input, for every k; and a table
   -- comes back
   pub accepted : CheckerTheorem
+  pub degree-one : DegreeOne
   pub group-by-group : GroupByGroup
   pub back-again : BackAgain
   -- the words in which the congruences are said (quotient/specs/Theorem.antt, DivisorTest.antt): residues modulo T, the product, substitution, divisors

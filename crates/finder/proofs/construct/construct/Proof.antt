@@ -1,6 +1,6 @@
 -- `construct`: 5 comes first, and otherwise n divides p − 1.
 use borrow.Author.Needs.{needs}
-use Rattle.finder.proofs.Constructed.{admissible, refused-degree}
+use Rattle.finder.proofs.construct.Constructed.{admissible, refused-degree}
 use Rattle.finder.proofs.construct.construct.Statement.{statement}
 use Rattle.finder.proofs.construct.construct.Tie as tie
 

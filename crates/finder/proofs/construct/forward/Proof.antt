@@ -1,6 +1,6 @@
 -- `forward`: the system for P1 is regular, and P1(c·α2) is S.
 use borrow.Author.Needs.{needs}
-use Rattle.finder.proofs.Constructed.{alpha1-holds, alpha2-holds, alpha1-independent, express-holds, multiple-holds, forward-is}
+use Rattle.finder.proofs.construct.Constructed.{alpha1-holds, alpha2-holds, alpha1-independent, express-holds, multiple-holds, forward-is}
 use Rattle.finder.proofs.construct.forward.Statement.{statement}
 use Rattle.finder.proofs.construct.forward.Tie as tie
 

@@ -1,6 +1,6 @@
 -- `pair`: the system for R is regular.
 use borrow.Author.Needs.{needs}
-use Rattle.finder.proofs.Constructed.{zeta-has-order, root-of-ratio-solvable, choices, forward-holds, forward-independent, pair-is}
+use Rattle.finder.proofs.construct.Constructed.{zeta-has-order, root-of-ratio-solvable, choices, forward-holds, forward-independent, pair-is}
 use Rattle.finder.proofs.construct.pair.Statement.{statement}
 use Rattle.finder.proofs.construct.pair.Tie as tie
 

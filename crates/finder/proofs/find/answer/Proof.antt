@@ -1,6 +1,6 @@
 -- `answer`: the arrays hold the lists.
 use borrow.Author.Needs.{needs}
-use Rattle.finder.proofs.FindAnswer.{first-short, second-short, first-holds, second-holds, answer-is}
+use Rattle.finder.proofs.find.FindAnswer.{first-short, second-short, first-holds, second-holds, answer-is}
 use Rattle.finder.proofs.find.answer.Statement.{statement}
 use Rattle.finder.proofs.find.answer.Tie as tie
 

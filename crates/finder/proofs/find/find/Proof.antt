@@ -1,6 +1,6 @@
 -- `find`: 1 to 4 come first and change nothing, then 5 to 7 or the pair.
 use borrow.Author.Needs.{needs}
-use Rattle.finder.proofs.FindAnswer.{find-refused, forward-kept, backward-kept, models, forward-size, backward-size, find-answered, forward-output, backward-output}
+use Rattle.finder.proofs.find.FindAnswer.{find-refused, forward-kept, backward-kept, models, forward-size, backward-size, find-answered, forward-output, backward-output}
 use Rattle.finder.proofs.find.find.Statement.{statement}
 use Rattle.finder.proofs.find.find.Tie as tie
 

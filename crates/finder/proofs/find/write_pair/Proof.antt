@@ -1,6 +1,6 @@
 -- `write_pair`: the lists lent change only where the number is 0.
 use borrow.Author.Needs.{needs}
-use Rattle.finder.proofs.FindAnswer.{kept, out-short, forward-stores, forward-stored, backward-stores, backward-stored, number-of}
+use Rattle.finder.proofs.find.FindAnswer.{kept, out-short, forward-stores, forward-stored, backward-stores, backward-stored, number-of}
 use Rattle.finder.proofs.find.write_pair.Statement.{statement}
 use Rattle.finder.proofs.find.write_pair.Tie as tie
 

@@ -1,6 +1,6 @@
 -- `kernel`: the solutions of the system are the u with u^p = z·u.
 use borrow.Author.Needs.{needs}
-use Rattle.frobenius.proofs.FrobeniusSystem.{zero-holds, power-x-holds, power-x-square, kernel-square, kernel-is}
+use Rattle.frobenius.proofs.eigenvector.FrobeniusSystem.{zero-holds, power-x-holds, power-x-square, kernel-square, kernel-is}
 use Rattle.frobenius.proofs.eigenvector.kernel.Statement.{statement}
 use Rattle.frobenius.proofs.eigenvector.kernel.Tie as tie
 

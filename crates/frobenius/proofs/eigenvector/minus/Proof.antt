@@ -1,7 +1,7 @@
 -- `minus` subtracts z from the words of the diagonal one after another.
 use borrow.Author.Needs.{needs}
 use Prim.Native.Nat.{_-_}
-use Rattle.frobenius.proofs.DiagonalScan.{Diagonal, diagonal-start, diagonal-below, diagonal-turn, diagonal-end}
+use Rattle.frobenius.proofs.eigenvector.DiagonalScan.{Diagonal, diagonal-start, diagonal-below, diagonal-turn, diagonal-end}
 use Rattle.frobenius.proofs.eigenvector.minus.Statement.{statement}
 use Rattle.frobenius.proofs.eigenvector.minus.Tie as tie
 

@@ -1,7 +1,7 @@
 -- `express`: the system is regular, and its solution is the polynomial.
 use borrow.Author.Needs.{needs}
 use Rattle.matrix.proofs.PowerMatrix.{square-of-powers}
-use Rattle.frobenius.proofs.PowerSystem.{right-side, expressed}
+use Rattle.frobenius.proofs.express.PowerSystem.{right-side, expressed}
 use Rattle.frobenius.proofs.express.express.Statement.{statement}
 use Rattle.frobenius.proofs.express.express.Tie as tie
 

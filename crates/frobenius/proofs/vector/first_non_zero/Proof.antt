@@ -1,7 +1,7 @@
 -- `first_non_zero` scans the words from the first on.
 use borrow.Author.Needs.{needs}
 use Prim.Native.Nat.{_-_}
-use Rattle.frobenius.proofs.VectorScan.{ZerosBefore, firstNonZero-start, firstNonZero-turn, firstNonZero-found, firstNonZero-none}
+use Rattle.frobenius.proofs.vector.VectorScan.{ZerosBefore, firstNonZero-start, firstNonZero-turn, firstNonZero-found, firstNonZero-none}
 use Rattle.frobenius.proofs.vector.first_non_zero.Statement.{statement}
 use Rattle.frobenius.proofs.vector.first_non_zero.Tie as tie
 

@@ -1,7 +1,7 @@
 -- `is_constant` scans the words after the first.
 use borrow.Author.Needs.{needs}
 use Prim.Native.Nat.{_-_}
-use Rattle.frobenius.proofs.VectorScan.{Constant, constant-start, constant-turn, constant-fails, constant-holds}
+use Rattle.frobenius.proofs.vector.VectorScan.{Constant, constant-start, constant-turn, constant-fails, constant-holds}
 use Rattle.frobenius.proofs.vector.is_constant.Statement.{statement}
 use Rattle.frobenius.proofs.vector.is_constant.Tie as tie
 

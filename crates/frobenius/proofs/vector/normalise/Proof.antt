@@ -1,6 +1,6 @@
 -- `normalise`: the first word that is not 0 has an inverse.
 use borrow.Author.Needs.{needs}
-use Rattle.frobenius.proofs.VectorScan.{firstNonZero-positive-word, firstNonZero-small-word, normalised-is}
+use Rattle.frobenius.proofs.vector.VectorScan.{firstNonZero-positive-word, firstNonZero-small-word, normalised-is}
 use Rattle.frobenius.proofs.vector.normalise.Statement.{statement}
 use Rattle.frobenius.proofs.vector.normalise.Tie as tie
 

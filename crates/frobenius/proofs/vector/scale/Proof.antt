@@ -3,7 +3,7 @@ use borrow.Author.Needs.{needs}
 use mathlib.Core.Path.{_≡_}
 use Prim.Native.Nat.{_-_, _≤_}
 use Rattle.array.proofs.Painted.{painted, painted-none}
-use Rattle.frobenius.proofs.VectorScan.{scaledWord, word-small, scale-turn, scale-done}
+use Rattle.frobenius.proofs.vector.VectorScan.{scaledWord, word-small, scale-turn, scale-done}
 use Rattle.frobenius.proofs.vector.scale.Statement.{statement}
 use Rattle.frobenius.proofs.vector.scale.Tie as tie
 

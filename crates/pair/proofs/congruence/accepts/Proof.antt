@@ -1,7 +1,7 @@
 -- `accepts`: the two tests decide the four congruences.
 use borrow.Author.Needs.{needs}
 use Rattle.matrix.proofs.PowerMatrix.{square-of-powers}
-use Rattle.pair.proofs.TwoTests.{image-length, root-fails, inverse-decides}
+use Rattle.pair.proofs.congruence.TwoTests.{image-length, root-fails, inverse-decides}
 use Rattle.pair.proofs.congruence.accepts.Statement.{statement}
 use Rattle.pair.proofs.congruence.accepts.Tie as tie
 

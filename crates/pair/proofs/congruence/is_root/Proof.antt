@@ -1,7 +1,7 @@
 -- `is_root`: S^n is S times the last column, and the matrix takes the lower words of T1 to the rest.
 use borrow.Author.Needs.{needs}
 use Rattle.matrix.proofs.PowerMatrix.{square-of-powers}
-use Rattle.pair.proofs.TwoTests.{last-holds, top-holds, image-holds, root-decides}
+use Rattle.pair.proofs.congruence.TwoTests.{last-holds, top-holds, image-holds, root-decides}
 use Rattle.pair.proofs.congruence.is_root.Statement.{statement}
 use Rattle.pair.proofs.congruence.is_root.Tie as tie
 

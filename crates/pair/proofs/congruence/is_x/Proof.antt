@@ -1,6 +1,6 @@
 -- `is_x`: u is compared with the residue of X word by word.
 use borrow.Author.Needs.{needs}
-use Rattle.pair.proofs.TwoTests.{x-length, x-decides}
+use Rattle.pair.proofs.congruence.TwoTests.{x-length, x-decides}
 use Rattle.pair.proofs.congruence.is_x.Statement.{statement}
 use Rattle.pair.proofs.congruence.is_x.Tie as tie
 

@@ -4,7 +4,7 @@ use Prim.Native.Nat.{_-_, _≤_}
 use lib.ListN.{take}
 use Rattle.quotient.specs.Residue.{sum, constant}
 use Rattle.array.proofs.Padded.{holds-word}
-use Rattle.pair.proofs.Comparison.{Left, opposite-starts, opposite-next, opposite-fails, left-none}
+use Rattle.pair.proofs.congruence.Comparison.{Left, opposite-starts, opposite-next, opposite-fails, left-none}
 use Rattle.pair.proofs.congruence.opposite.Statement.{statement}
 use Rattle.pair.proofs.congruence.opposite.Tie as tie
 

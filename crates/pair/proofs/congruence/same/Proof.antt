@@ -2,7 +2,7 @@
 use borrow.Author.Needs.{needs}
 use Prim.Native.Nat.{_-_, _≤_}
 use lib.ListN.{take}
-use Rattle.pair.proofs.Comparison.{Left, same-starts, same-next, same-fails, left-none}
+use Rattle.pair.proofs.congruence.Comparison.{Left, same-starts, same-next, same-fails, left-none}
 use Rattle.pair.proofs.congruence.same.Statement.{statement}
 use Rattle.pair.proofs.congruence.same.Tie as tie
 

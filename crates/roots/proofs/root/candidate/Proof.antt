@@ -1,7 +1,7 @@
 -- `candidate` needs no more than that its words stay below p; the measure is d and what is left of the factors to try.
 use borrow.Author.Needs.{needs}
 use Prim.Native.Nat.{_+_, _-_, _≤_, _<_}
-use Rattle.roots.proofs.RootScan.{index-positive, index-small, quotient-falls, quotient-small, exponent-fits, index-part-small}
+use Rattle.roots.proofs.root.RootScan.{index-positive, index-small, quotient-falls, quotient-small, exponent-fits, index-part-small}
 use Rattle.roots.proofs.root.candidate.Statement.{statement}
 use Rattle.roots.proofs.root.candidate.Tie as tie
 

@@ -1,7 +1,7 @@
 -- `coprime_part` divides by common factors; the measure is the quotient and what is left of the factors to try.
 use borrow.Author.Needs.{needs}
 use Prim.Native.Nat.{_+_, _-_, _≤_}
-use Rattle.roots.proofs.RootScan.{quotient-positive, quotient-less, quotient-small}
+use Rattle.roots.proofs.root.RootScan.{quotient-positive, quotient-less, quotient-small}
 use Rattle.roots.proofs.root.coprime_part.Statement.{statement}
 use Rattle.roots.proofs.root.coprime_part.Tie as tie
 

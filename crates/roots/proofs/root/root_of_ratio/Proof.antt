@@ -2,7 +2,7 @@
 use borrow.Author.Needs.{needs}
 use mathlib.Core.Logic.{⊎-elim}
 use Prim.Native.Nat.{_-_}
-use Rattle.roots.proofs.RootScan.{Least, least-start, least-lower, least-same, least-end}
+use Rattle.roots.proofs.root.RootScan.{Least, least-start, least-lower, least-same, least-end}
 use Rattle.roots.proofs.root.root_of_ratio.Statement.{statement}
 use Rattle.roots.proofs.root.root_of_ratio.Tie as tie
 

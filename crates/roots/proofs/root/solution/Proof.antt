@@ -1,7 +1,7 @@
 -- `solution` tests the candidate; otherwise the scan ends before p, for the smallest solution is below p.
 use borrow.Author.Needs.{needs}
 use Prim.Native.Nat.{_-_}
-use Rattle.roots.proofs.RootScan.{scan-turn, scan-end, candidate-solves}
+use Rattle.roots.proofs.root.RootScan.{scan-turn, scan-end, candidate-solves}
 use Rattle.roots.proofs.RootsOfUnity.{Solution}
 use Rattle.algebra.proofs.NumberScan.{Searched}
 use Rattle.roots.proofs.root.solution.Statement.{statement}

@@ -1,6 +1,6 @@
 -- `solves` compares c^n·a2 with a1.
 use borrow.Author.Needs.{needs}
-use Rattle.roots.proofs.RootScan.{solves-test}
+use Rattle.roots.proofs.root.RootScan.{solves-test}
 use Rattle.roots.proofs.root.solves.Statement.{statement}
 use Rattle.roots.proofs.root.solves.Tie as tie
 

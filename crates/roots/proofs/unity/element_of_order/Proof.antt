@@ -1,7 +1,7 @@
 -- `element_of_order` tries the numbers from 31415 on, modulo p; some number modulo p is right.
 use borrow.Author.Needs.{needs}
 use Prim.Native.Nat.{_+_, _-_}
-use Rattle.roots.proofs.OrderScan.{NoneBefore, base-fits, none-before-start, none-before-turn, none-before-end}
+use Rattle.roots.proofs.unity.OrderScan.{NoneBefore, base-fits, none-before-start, none-before-turn, none-before-end}
 use Rattle.roots.proofs.unity.element_of_order.Statement.{statement}
 use Rattle.roots.proofs.unity.element_of_order.Tie as tie
 

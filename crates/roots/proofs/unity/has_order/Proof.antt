@@ -1,7 +1,7 @@
 -- `has_order` compares the powers of w with 1, from the first on.
 use borrow.Author.Needs.{needs}
 use Prim.Native.Nat.{_-_}
-use Rattle.roots.proofs.OrderScan.{Lower, lower-start, lower-turn, lower-found, lower-end}
+use Rattle.roots.proofs.unity.OrderScan.{Lower, lower-start, lower-turn, lower-found, lower-end}
 use Rattle.roots.proofs.unity.has_order.Statement.{statement}
 use Rattle.roots.proofs.unity.has_order.Tie as tie
 

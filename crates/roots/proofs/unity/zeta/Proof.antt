@@ -2,7 +2,7 @@
 use borrow.Author.Needs.{needs}
 use mathlib.Core.Logic.{⊎-elim}
 use Prim.Native.Nat.{_-_}
-use Rattle.roots.proofs.OrderScan.{SmallestOfPowers, smallest-start, smallest-above, smallest-lower, smallest-other, smallest-end}
+use Rattle.roots.proofs.unity.OrderScan.{SmallestOfPowers, smallest-start, smallest-above, smallest-lower, smallest-other, smallest-end}
 use Rattle.roots.proofs.unity.zeta.Statement.{statement}
 use Rattle.roots.proofs.unity.zeta.Tie as tie
 

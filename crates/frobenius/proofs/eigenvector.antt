@@ -1,0 +1,3 @@
+-- The laws on which the proofs of `eigenvector` rest.
+mod DiagonalScan
+mod FrobeniusSystem

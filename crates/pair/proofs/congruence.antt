@@ -1,0 +1,3 @@
+-- The laws on which the proofs of `congruence` rest.
+mod Comparison
+mod TwoTests
