@@ -23,7 +23,7 @@ words-bit w words i e h k =
     ∙ all-bits-bit w words (i / w) (i % w) (omega arith) k
     ∙ bit-of-bits w (getD words (i / w) 0) (i % w) e h
 
-pub unpacked-bit : (ys : List ℕ) (i : ℕ) → i < 8 * length ys → getD (unpacked ys) i 0 ≡ getD ys (i / 8) 0 / 2 ^ (7 - i % 8) % 2
+unpacked-bit : (ys : List ℕ) (i : ℕ) → i < 8 * length ys → getD (unpacked ys) i 0 ≡ getD ys (i / 8) 0 / 2 ^ (7 - i % 8) % 2
 unpacked-bit ys i h = ap (λ bs. getD bs i 0) (unpacked-all-bits ys) ∙ words-bit 8 ys i (7 - i % 8) (omega arith) (omega arith)
 
 -- one more bit

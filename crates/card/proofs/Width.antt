@@ -20,13 +20,13 @@ width-found : (p : ℕ) → p ≤ 65535 → Found (enough p) (range 0 17) (width
 unfolding width
 width-found p h = first-found (enough p) 0 (range 0 17) 16 (range-member 0 17 16 (lit≤ tt) (lit≤ tt)) (lt-ltb (p - 1) (2 ^ 16) (omega arith))
 
-pub width-enough : (p : ℕ) → p ≤ 65535 → p - 1 < 2 ^ width p
+width-enough : (p : ℕ) → p ≤ 65535 → p - 1 < 2 ^ width p
 width-enough p h = ltb-true (p - 1) (2 ^ width p) (width-found p h .1)
 
 pub width-most : (p : ℕ) → p ≤ 65535 → width p ≤ 16
 width-most p h = omega (arith, range-bounds 0 17 (width p) (width-found p h .0))
 
-pub width-least : (p w : ℕ) → w ≤ 16 → p - 1 < 2 ^ w → width p ≤ w
+width-least : (p w : ℕ) → w ≤ 16 → p - 1 < 2 ^ w → width p ≤ w
 unfolding width
 width-least p w l h = first-smallest (enough p) 0 0 17 w (omega arith) (omega arith) (lt-ltb (p - 1) (2 ^ w) h)
 
