@@ -34,15 +34,19 @@ load-done j xs w b l m e =
     ∙ painted-array (length xs) (entry xs) (replicate 16 0) b (padded-zeros (length xs) b ∙ ap padded (sym (take-zeros (length xs) b)))
     ∙ ap padded (table-entries (length xs) xs (Nat.le-refl (length xs)) ∙ take-length xs)
 
+-- the whole of w is written over by words of xs
+pub copy-done : (j : ℕ) (xs w w′ : List ℕ) → length w ≤ length xs → j ≤ length w → length w′ ≤ j → w′ ≡ painted w (entry xs) j → w′ ≡ take (length w) xs
+copy-done j xs w w′ b l m e =
+    let same : j ≡ length w = omega (arith, ap length e ∙ painted-length w (entry xs) j) in
+    e ∙ ap (painted w (entry xs)) same
+    ∙ painted-is w (entry xs) (length w) (Nat.le-refl (length w))
+    ∙ ap (λ l. table (entry xs) (length w) ++ l) (drop-length w)
+    ∙ append-nil (table (entry xs) (length w))
+    ∙ table-entries (length w) xs b
+
 pub store-done : (j : ℕ) (w xs xs′ : List ℕ) → length xs ≤ 16 → Holds wordBound (length xs) w → j ≤ length xs → length xs′ ≤ j → xs′ ≡ painted xs (entry w) j
     → xs′ ≡ take (length xs) w
-store-done j w xs xs′ b h l m e =
-    let same : j ≡ length xs = omega (arith, ap length e ∙ painted-length xs (entry w) j) in
-    e ∙ ap (painted xs (entry w)) same
-    ∙ painted-is xs (entry w) (length xs) (Nat.le-refl (length xs))
-    ∙ ap (λ l. table (entry w) (length xs) ++ l) (drop-length xs)
-    ∙ append-nil (table (entry w) (length xs))
-    ∙ table-entries (length xs) w (array-fits (length xs) w b (h .zeros))
+store-done j w xs xs′ b h l m e = copy-done j w xs xs′ (array-fits (length xs) w b (h .zeros)) l m e
 
 pub store-fits : (j : ℕ) (w xs xs′ : List ℕ) → Holds wordBound (length xs) w → length xs′ ≡ length xs → j < length xs′ → Fits w16 (getD w j 0)
 store-fits j w xs xs′ h e l = record { fits = holds-word h j (omega arith) }

@@ -1,19 +1,15 @@
 -- The reader's and the writer's answers: where the call is refused every field is 0 and the list is as it was, else they are what the
 -- card says.
 use mathlib.Core.Path.{_≡_, refl, sym, ap, ap₂, _∙_}
-use mathlib.Core.List.{List, _++_}
-use Prim.Native.Nat.{ℕ, zero, suc, _+_, _-_, _*_, _≤_}
+use mathlib.Core.List.{List}
+use Prim.Native.Nat.{ℕ, zero, suc, _+_, _*_, _≤_}
 use native.Mathlib.Omega.{arith}
-use lib.ListN.{length, replicate}
-use borrow.Author.Tests.{ne-eqb, ltb-false}
-use Rattle.refusal.specs.Refusal.{written}
+use lib.ListN.{length}
 use Rattle.card.specs.Bits.{unpacked}
 use Rattle.card.specs.Card.{width, wordCount, cardLength, fieldAt, cardPrime, cardDegree, cardKind, cardWords, readNumber, readPrime, readDegree, readKind, readOutput, unlessRefused, card, writeNumber, writeOutput}
 use Rattle.card.proofs.Fields.{fields-length}
-use Rattle.card.proofs.WordCount.{Counted, counted-kind}
-use Rattle.card.proofs.Scans.{entries}
-use Rattle.refusal.proofs.Refusal.{prime-bounds, degree-given}
-use Rattle.card.proofs.Conditions.{length-is}
+use Rattle.refusal.proofs.Written.{output-new, output-old}
+use Rattle.card.proofs.Entries.{entries}
 use Rattle.card.proofs.Refusals.{Readable, readable, Writable, writable}
 use Rattle.card.proofs.Width.{width-positive}
 use Rattle.card.proofs.Theorem.{longest-card}
@@ -21,9 +17,6 @@ use Rattle.card.proofs.Theorem.{longest-card}
 refused-field : (k v : ℕ) → (k ≡ 0 → ⊥) → 0 ≡ unlessRefused k v
 refused-field zero v h = absurd (h refl)
 refused-field (suc k) v h = refl
-
-refused-list : (k : ℕ) (new old : List ℕ) → (k ≡ 0 → ⊥) → old ≡ written k new old
-refused-list k new old h = rw (ne-eqb k 0 h)
 
 module _ (ys out : List ℕ) (number : ℕ) (e : number ≡ readNumber ys out) where
   module _ (h : number ≡ 0 → ⊥) where
@@ -41,7 +34,7 @@ module _ (ys out : List ℕ) (number : ℕ) (e : number ≡ readNumber ys out) w
 
     pub refused-output : out ≡ readOutput ys out
     unfolding readOutput
-    refused-output = rw (← e) (refused-list number (cardWords ys ++ replicate (64 - length (cardWords ys)) 0) out h)
+    refused-output = output-old number (readNumber ys out) _ out e h
 
   module _ (h : number ≡ 0) where
     accepted : readNumber ys out ≡ 0
@@ -51,10 +44,10 @@ module _ (ys out : List ℕ) (number : ℕ) (e : number ≡ readNumber ys out) w
     good = readable ys out accepted
 
     pub room-is : length out ≡ 64
-    room-is = length-is 64 out (good .lent)
+    room-is = good .lent
 
     pub header-there : 3 ≤ length ys
-    header-there = ltb-false (length ys) 3 (good .header)
+    header-there = good .header
 
     pub accepted-prime : (p : ℕ) → p ≡ fieldAt (unpacked ys) 0 16 → p ≡ readPrime ys out
     unfolding readPrime cardPrime
@@ -68,14 +61,14 @@ module _ (ys out : List ℕ) (number : ℕ) (e : number ≡ readNumber ys out) w
     unfolding readKind cardKind
     accepted-kind kind ek = ek ∙ rw accepted
 
-    module _ (p m kind w count : ℕ) (ep : p ≡ fieldAt (unpacked ys) 0 16) (em : m ≡ fieldAt (unpacked ys) 16 4) (ek : kind ≡ fieldAt (unpacked ys) 20 4) (ew : w ≡ width p) (counted : Counted (m + 1) kind count) where
+    module _ (p m kind w count : ℕ) (ep : p ≡ fieldAt (unpacked ys) 0 16) (em : m ≡ fieldAt (unpacked ys) 16 4) (ek : kind ≡ fieldAt (unpacked ys) 20 4) (ew : w ≡ width p) (counted : count ≡ wordCount (m + 1) kind) where
       width-is : w ≡ width (cardPrime ys)
       unfolding cardPrime
       width-is = ew ∙ ap width ep
 
       count-is : count ≡ wordCount (cardDegree ys) (cardKind ys)
       unfolding cardDegree cardKind
-      count-is = counted-kind (m + 1) kind count counted (rw ek (good .kind-good)) ∙ ap₂ (λ a b. wordCount (a + 1) b) em ek
+      count-is = counted ∙ ap₂ (λ a b. wordCount (a + 1) b) em ek
 
       pub words-there : 24 + count * w ≤ 8 * length ys
       unfolding cardLength
@@ -91,7 +84,7 @@ module _ (ys out : List ℕ) (number : ℕ) (e : number ≡ readNumber ys out) w
 module _ (p n kind : ℕ) (words out : List ℕ) (number : ℕ) (e : number ≡ writeNumber p n kind words out) where
   pub write-refused : (number ≡ 0 → ⊥) → out ≡ writeOutput p n kind words out
   unfolding writeOutput
-  write-refused h = rw (← e) (refused-list number (card p n kind words) out h)
+  write-refused h = output-old number (writeNumber p n kind words out) (card p n kind words) out e h
 
   module _ (h : number ≡ 0) where
     written-number : writeNumber p n kind words out ≡ 0
@@ -101,23 +94,20 @@ module _ (p n kind : ℕ) (words out : List ℕ) (number : ℕ) (e : number ≡ 
     fit = writable p n kind words out written-number
 
     pub prime-fits : p ≤ 65535
-    prime-fits = prime-bounds p (fit .prime) .1
+    prime-fits = fit .small
 
     pub degree-there : 1 ≤ n
-    degree-there = degree-given n (fit .degree) .0
+    degree-there = fit .low
 
     pub width-there : (w : ℕ) → w ≡ width p → 1 ≤ w
-    width-there w ew = rw ew (width-positive p (prime-bounds p (fit .prime) .0) prime-fits)
-
-    room-size : length out ≡ cardLength p n kind
-    room-size = length-is (cardLength p n kind) out (fit .size)
+    width-there w ew = rw ew (width-positive p (fit .prime .0) prime-fits)
 
     pub room-exact : length out ≡ length (card p n kind words)
-    room-exact = room-size ∙ sym (longest-card .0 p n kind words out written-number .0)
+    room-exact = fit .size ∙ sym (longest-card .0 p n kind words out written-number .0)
 
     pub room-most : length out ≤ 131
-    room-most = rw room-size (longest-card .0 p n kind words out written-number .1)
+    room-most = rw (fit .size) (longest-card .0 p n kind words out written-number .1)
 
     pub write-accepted : (new : List ℕ) → new ≡ card p n kind words → new ≡ writeOutput p n kind words out
     unfolding writeOutput
-    write-accepted new en = rw written-number en
+    write-accepted new en = output-new number (writeNumber p n kind words out) (card p n kind words) out new e h en

@@ -1,29 +1,24 @@
 -- Laws of bits: the number of the w bits of v is v % 2^w, and a list of bits is determined by its length and its number, so each of
--- `bits` and `number` undoes the other.
---   Binary bs   every element is 0 or 1
+-- `bits` and `number` undoes the other. A list of w bits is one of w words below 2.
 use mathlib.Core.Path.{_≡_, refl, sym, ap, ap₂, _∙_}
 use mathlib.Core.List.{List, [], _∷_, _++_}
 use Prim.Native.Nat.{ℕ, zero, suc, _+_, _*_, _/_, _%_, _^_, _≤_, _<_}
-use native.Mathlib.Nat.{mod-lt, mod-eq-of-lt, mod-one, suc-inj, pow-suc, mul-le-mul-right, lt-of-lt-of-le, le-trans}
+use native.Mathlib.Nat.{mod-lt, mod-eq-of-lt, mod-one, pow-suc, mul-le-mul-right, lt-of-lt-of-le, le-trans}
 use native.Mathlib.Omega.{arith}
 use lib.Dec.{lit<}
 use lib.ListN.{length, getD}
 use lib.Pow.{mod-pow-add}
-use Rattle.algebra.specs.Lists.{All}
+use Rattle.array.specs.Words.{Words, none, more}
+use Rattle.array.proofs.Words.{words-length}
 use Rattle.card.specs.Bits.{bits, number, numberFrom}
 
-abbrev pub Binary : List ℕ → Type 0
-Binary bs = All (λ b. b < 2) bs
+pub bits-words : (w v : ℕ) → Words 2 w (bits w v)
+unfolding bits
+bits-words zero v = none
+bits-words (suc w) v = more (mod-lt (v / 2 ^ w) (lit< tt)) (bits-words w v)
 
 pub bits-length : (w v : ℕ) → length (bits w v) ≡ w
-unfolding bits
-bits-length zero v = refl
-bits-length (suc w) v = ap suc (bits-length w v)
-
-pub bits-binary : (w v : ℕ) → Binary (bits w v)
-unfolding bits
-bits-binary zero v = tt
-bits-binary (suc w) v = (mod-lt (v / 2 ^ w) (lit< tt), bits-binary w v)
+bits-length w v = words-length (bits-words w v)
 
 -- bit j of the w bits of v, with k bits after it
 pub bit-of-bits : (w v j k : ℕ) → j + suc k ≡ w → getD (bits w v) j 0 ≡ v / 2 ^ k % 2
@@ -48,44 +43,31 @@ pub number-bits : (w v : ℕ) → v < 2 ^ w → number (bits w v) ≡ v
 number-bits w v h = numberFrom-bits w 0 v ∙ omega (arith, mod-eq-of-lt h)
 
 -- the first number and every bit can be told from the last number: bit by bit from the end, the remainder by 2
-numberFrom-injective : (xs ys : List ℕ) (g h : ℕ) → Binary xs → Binary ys → length xs ≡ length ys → numberFrom g xs ≡ numberFrom h ys
-    → (g ≡ h) × (xs ≡ ys)
+numberFrom-injective : {w : ℕ} {xs ys : List ℕ} (g h : ℕ) → Words 2 w xs → Words 2 w ys → numberFrom g xs ≡ numberFrom h ys → (g ≡ h) × (xs ≡ ys)
 unfolding numberFrom
-numberFrom-injective [] [] g h bx bys l e = (e, refl)
-numberFrom-injective [] (y ∷ ys) g h bx bys l e = absurd (omega arith)
-numberFrom-injective (x ∷ xs) [] g h bx bys l e = absurd (omega arith)
-numberFrom-injective (x ∷ xs) (y ∷ ys) g h bx bys l e =
-    let r : (g * 2 + x ≡ h * 2 + y) × (xs ≡ ys) = numberFrom-injective xs ys (g * 2 + x) (h * 2 + y) (bx .1) (bys .1) (suc-inj l) e in
-    let d : x ≡ y = omega (arith, r .0, bx .0, bys .0) in
-    (omega (arith, r .0, d), ap₂ (λ (a : ℕ) (bs : List ℕ). a ∷ bs) d (r .1))
+numberFrom-injective g h none none e = (e, refl)
+numberFrom-injective g h (more {a = x} {u = xs} k v) (more {a = y} {u = ys} l w) e =
+    let r : (g * 2 + x ≡ h * 2 + y) × (xs ≡ ys) = numberFrom-injective (g * 2 + x) (h * 2 + y) v w e in
+    let d : x ≡ y = omega (arith, r .0) in
+    (omega (arith, r .0), ap₂ (λ (a : ℕ) (bs : List ℕ). a ∷ bs) d (r .1))
 
 -- w bits are a number below 2^w
-numberFrom-below : (bs : List ℕ) (h : ℕ) → Binary bs → numberFrom h bs < suc h * 2 ^ length bs
+numberFrom-below : {w : ℕ} {bs : List ℕ} (h : ℕ) → Words 2 w bs → numberFrom h bs < suc h * 2 ^ w
 unfolding numberFrom
-numberFrom-below [] h b = omega arith
-numberFrom-below (d ∷ ds) h b = lt-of-lt-of-le (numberFrom-below ds (h * 2 + d) (b .1)) (rw pow-suc (double h d (2 ^ length ds) (b .0)))
+numberFrom-below h none = omega arith
+numberFrom-below h (more {a = d} {n = w} k b) = lt-of-lt-of-le (numberFrom-below (h * 2 + d) b) (rw pow-suc (double h d (2 ^ w) k))
   where
     double : (h d q : ℕ) → d < 2 → suc (h * 2 + d) * q ≤ suc h * (q * 2)
     double h d q l =
         let m : suc (h * 2 + d) ≤ suc h * 2 = omega arith in
         le-trans (mul-le-mul-right q m) (omega arith)
 
-pub number-below : (w : ℕ) (bs : List ℕ) → Binary bs → length bs ≡ w → number bs < 2 ^ w
-number-below w bs b l = rw (← l) (omega (arith, numberFrom-below bs 0 b))
+pub number-below : {w : ℕ} {bs : List ℕ} → Words 2 w bs → number bs < 2 ^ w
+number-below b = omega (arith, numberFrom-below 0 b)
 
 -- so the bits of a number are those that it was made of
-pub bits-number : (w : ℕ) (bs : List ℕ) → Binary bs → length bs ≡ w → bits w (number bs) ≡ bs
-bits-number w bs b l =
-    numberFrom-injective
-    (bits w (number bs))
-    bs
-    0
-    0
-    (bits-binary w (number bs))
-    b
-    (bits-length w (number bs) ∙ sym l)
-    (number-bits w (number bs) (number-below w bs b l))
-    .1
+pub bits-number : {w : ℕ} {bs : List ℕ} → Words 2 w bs → bits w (number bs) ≡ bs
+bits-number {w} {bs} b = numberFrom-injective 0 0 (bits-words w (number bs)) b (number-bits w (number bs) (number-below b)) .1
 
 pub numberFrom-append : (h : ℕ) (xs ys : List ℕ) → numberFrom h (xs ++ ys) ≡ numberFrom (numberFrom h xs) ys
 unfolding numberFrom

@@ -1,27 +1,27 @@
 -- Laws of fields, the numbers in w bits of a list: what was put together of bits is read back, and the bits of what is read are those
 -- that were there.
-use mathlib.Core.Path.{_≡_, refl, sym, ap, ap₂, _∙_}
+use mathlib.Core.Path.{_≡_, refl, sym, ap, ap₂, subst, _∙_}
 use mathlib.Core.List.{List, [], _∷_, _++_, append-assoc}
 use Prim.Native.Nat.{ℕ, zero, suc, _+_, _*_, _^_, _≤_, _<_}
 use native.Mathlib.Nat.{le-of-suc-le-suc}
 use native.Mathlib.Omega.{arith}
-use lib.ListN.{length, getD, take, drop, length-append, length-take, length-drop, List·getD-append}
+use lib.ListN.{length, getD, take, drop, List·getD-append}
 use lib.Seq.{take-at, take-add, drop-drop, drop-append-add, getD-append-add}
-use Rattle.algebra.specs.Lists.{All}
+use Rattle.array.specs.Words.{Words, none, more}
+use Rattle.array.proofs.Words.{words-length, append-words, take-words, drop-words}
 use Rattle.card.specs.Bits.{bits, number}
 use Rattle.card.specs.Card.{allBits, fieldAt, fieldsAt}
-use Rattle.card.proofs.Bits.{Binary, bits-length, bits-binary, bits-number, number-bits, number-below}
-use Rattle.card.proofs.Lists.{all-append, all-take, all-drop}
+use Rattle.card.proofs.Bits.{bits-words, bits-length, bits-number, number-bits, number-below}
+
+pub all-bits-words : (w : ℕ) (words : List ℕ) → Words 2 (length words * w) (allBits w words)
+unfolding allBits
+all-bits-words w [] = let e : 0 ≡ 0 * w = omega arith in subst (λ k. Words 2 k []) e none
+all-bits-words w (a ∷ words) =
+    let e : w + length words * w ≡ suc (length words) * w = omega arith in
+    subst (λ k. Words 2 k (bits w a ++ allBits w words)) e (append-words (bits-words w a) (all-bits-words w words))
 
 pub all-bits-length : (w : ℕ) (words : List ℕ) → length (allBits w words) ≡ length words * w
-unfolding allBits
-all-bits-length w [] = omega arith
-all-bits-length w (a ∷ words) = length-append (bits w a) (allBits w words) ∙ omega (arith, bits-length w a, all-bits-length w words)
-
-pub all-bits-binary : (w : ℕ) (words : List ℕ) → Binary (allBits w words)
-unfolding allBits
-all-bits-binary w [] = tt
-all-bits-binary w (a ∷ words) = all-append _ (bits w a) (allBits w words) (bits-binary w a) (all-bits-binary w words)
+all-bits-length w words = words-length (all-bits-words w words)
 
 -- bit r of word k
 pub all-bits-bit : (w : ℕ) (words : List ℕ) (k r : ℕ) → r < w → k < length words → getD (allBits w words) (k * w + r) 0 ≡ getD (bits w (getD words k 0)) r 0
@@ -48,40 +48,37 @@ fields-skip xs bs i j w zero e = refl
 fields-skip xs bs i j w (suc k) e =
     ap₂ (λ (a : ℕ) (r : List ℕ). a ∷ r) (field-skip xs bs i j w e) (fields-skip xs bs (i + w) (j + w) w k (omega arith))
 
-pub fields-here : (w : ℕ) (words bs : List ℕ) → All (λ a. a < 2 ^ w) words → fieldsAt (allBits w words ++ bs) 0 w (length words) ≡ words
+pub fields-here : {k : ℕ} {words : List ℕ} (w : ℕ) (bs : List ℕ) → Words (2 ^ w) k words → fieldsAt (allBits w words ++ bs) 0 w k ≡ words
 unfolding fieldsAt allBits
-fields-here w [] bs h = refl
-fields-here w (a ∷ words) bs h =
+fields-here w bs none = refl
+fields-here w bs (more {a = a} {n = k} {u = words} h l) =
     rw append-assoc
     (ap₂ (λ (b : ℕ) (r : List ℕ). b ∷ r)
-    (field-here w a (allBits w words ++ bs) (h .0))
-    (fields-skip (bits w a) (allBits w words ++ bs) 0 (0 + w) w (length words) (omega (arith, bits-length w a)) ∙ fields-here w words bs (h .1)))
+    (field-here w a (allBits w words ++ bs) h)
+    (fields-skip (bits w a) (allBits w words ++ bs) 0 (0 + w) w k (omega (arith, bits-length w a)) ∙ fields-here w bs l))
 
 pub fields-length : (bs : List ℕ) (i w k : ℕ) → length (fieldsAt bs i w k) ≡ k
 unfolding fieldsAt
 fields-length bs i w zero = refl
 fields-length bs i w (suc k) = ap suc (fields-length bs (i + w) w k)
 
-module _ (bs : List ℕ) (b : Binary bs) (i w : ℕ) (h : i + w ≤ length bs) where
-  part-binary : Binary (take w (drop i bs))
-  part-binary = all-take _ w (drop i bs) (all-drop _ i bs b)
-
-  part-length : length (take w (drop i bs)) ≡ w
-  part-length = length-take w (drop i bs) ∙ omega (arith, length-drop i bs)
+module _ {m : ℕ} {bs : List ℕ} (b : Words 2 m bs) (i w : ℕ) (h : i + w ≤ m) where
+  part-words : Words 2 w (take w (drop i bs))
+  part-words = take-words (drop-words b i) w (omega arith)
 
   pub field-below : fieldAt bs i w < 2 ^ w
   unfolding fieldAt
-  field-below = number-below w (take w (drop i bs)) part-binary part-length
+  field-below = number-below part-words
 
   pub bits-of-field : bits w (fieldAt bs i w) ≡ take w (drop i bs)
   unfolding fieldAt
-  bits-of-field = bits-number w (take w (drop i bs)) part-binary part-length
+  bits-of-field = bits-number part-words
 
-pub bits-of-fields : (bs : List ℕ) → Binary bs → (i w k : ℕ) → i + k * w ≤ length bs → allBits w (fieldsAt bs i w k) ≡ take (k * w) (drop i bs)
+pub bits-of-fields : {m : ℕ} {bs : List ℕ} → Words 2 m bs → (i w k : ℕ) → i + k * w ≤ m → allBits w (fieldsAt bs i w k) ≡ take (k * w) (drop i bs)
 unfolding allBits fieldsAt
-bits-of-fields bs b i w zero h = let e : 0 ≡ 0 * w = omega arith in ap (λ m. take m (drop i bs)) e
-bits-of-fields bs b i w (suc k) h =
+bits-of-fields {bs = bs} b i w zero h = let e : 0 ≡ 0 * w = omega arith in ap (λ m. take m (drop i bs)) e
+bits-of-fields {bs = bs} b i w (suc k) h =
     let e : w + k * w ≡ suc k * w = omega arith in
-    ap₂ _++_ (bits-of-field bs b i w (omega arith)) (bits-of-fields bs b (i + w) w k (omega arith) ∙ ap (take (k * w)) (sym (drop-drop w i bs)))
+    ap₂ _++_ (bits-of-field b i w (omega arith)) (bits-of-fields b (i + w) w k (omega arith) ∙ ap (take (k * w)) (sym (drop-drop w i bs)))
     ∙ sym (take-add w (k * w) (drop i bs))
     ∙ ap (λ m. take m (drop i bs)) e

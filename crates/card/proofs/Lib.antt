@@ -1,19 +1,22 @@
--- Laws of bits and of field cards, in the order in which they rest on each other: bits, fields and bytes; what the conditions of the
--- refusals mean; written cards and cards that are read, up to the theorems; then the laws that the functions' proofs apply.
-pub mod Lists
-pub mod Bits
-pub mod Fields
+-- Laws of bits and of field cards, in the order in which they rest on each other: bits, fields and bytes; the kinds, the header and what it
+-- means that no refusal applies; written cards and cards that are read, up to the theorems; then the laws that the functions' proofs apply.
+mod Zeros
+mod Bits
+mod Fields
 pub mod Packed
-pub mod Width
-pub mod Conditions
+mod Width
+pub mod CardKinds
+pub mod Header
 pub mod Refusals
-pub mod Written
-pub mod Read
+mod Written
+mod Read
 pub mod Theorem
-pub mod WordCount
-pub mod Places
-pub mod Scans
-pub mod ReadFaults
-pub mod WriteFaults
-pub mod WrittenBits
-pub mod Answers
+mod Places
+mod Scans
+mod Entries
+mod Copied
+mod OneList
+mod ReadFaults
+mod WriteFaults
+mod WrittenBits
+mod Answers

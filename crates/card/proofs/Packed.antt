@@ -7,14 +7,16 @@ use Prim.Native.Nat.{ℕ, zero, suc, _+_, _-_, _*_, _/_, _≤_, _<_}
 use native.Mathlib.Nat.{mul-comm}
 use native.Mathlib.Omega.{arith}
 use lib.Dec.{lit<, lit≤}
-use lib.ListN.{length, take, drop, replicate, length-append, length-take, length-drop, length-replicate, replicate-append-replicate}
+use lib.ListN.{length, take, drop, replicate, length-drop, replicate-append-replicate}
 use lib.Seq.{take-at, drop-at}
 use Rattle.algebra.specs.Lists.{All}
+use Rattle.array.specs.Words.{Words}
+use Rattle.array.proofs.Words.{words-length, append-words, take-words, drop-words, zeros-words}
 use Rattle.card.specs.Bits.{bits, number, bytes, packed, unpacked}
-use Rattle.card.proofs.Bits.{Binary, bits-length, bits-number, number-bits, number-below}
+use Rattle.card.proofs.Bits.{bits-length, bits-number, number-bits, number-below}
 use Rattle.card.specs.Card.{allBits}
-use Rattle.card.proofs.Fields.{all-bits-length, all-bits-binary}
-use Rattle.card.proofs.Lists.{all-append, all-take, all-drop, all-replicate, take-replicate}
+use Rattle.card.proofs.Fields.{all-bits-words}
+use Rattle.card.proofs.Zeros.{take-replicate}
 
 abbrev pub Bytes : List ℕ → Type 0
 Bytes ys = All (λ y. y < 256) ys
@@ -25,11 +27,11 @@ unfolding unpacked allBits
 unpacked-all-bits [] = refl
 unpacked-all-bits (y ∷ ys) = ap (λ (l : List ℕ). bits 8 y ++ l) (unpacked-all-bits ys)
 
-pub unpacked-length : (ys : List ℕ) → length (unpacked ys) ≡ 8 * length ys
-unpacked-length ys = ap length (unpacked-all-bits ys) ∙ all-bits-length 8 ys ∙ mul-comm (length ys) 8
+pub unpacked-words : (ys : List ℕ) → Words 2 (8 * length ys) (unpacked ys)
+unpacked-words ys = rw (unpacked-all-bits, mul-comm 8 (length ys)) (all-bits-words 8 ys)
 
-pub unpacked-binary : (ys : List ℕ) → Binary (unpacked ys)
-unpacked-binary ys = rw unpacked-all-bits (all-bits-binary 8 ys)
+pub unpacked-length : (ys : List ℕ) → length (unpacked ys) ≡ 8 * length ys
+unpacked-length ys = words-length (unpacked-words ys)
 
 bytes-length : (k : ℕ) (bs : List ℕ) → length (bytes k bs) ≡ k
 unfolding bytes
@@ -40,18 +42,14 @@ bytes-length (suc k) bs = ap suc (bytes-length k (drop 8 bs))
 nextEight : List ℕ → List ℕ
 nextEight bs = take 8 (bs ++ replicate 8 0)
 
-next-eight-binary : (bs : List ℕ) → Binary bs → Binary (nextEight bs)
+next-eight-words : {m : ℕ} {bs : List ℕ} → Words 2 m bs → Words 2 8 (nextEight bs)
 unfolding nextEight
-next-eight-binary bs b = all-take _ 8 (bs ++ replicate 8 0) (all-append _ bs (replicate 8 0) b (all-replicate (λ (b : ℕ). b < 2) 8 0 (lit< tt)))
+next-eight-words b = take-words (append-words b (zeros-words 8 (lit< tt))) 8 (omega arith)
 
-next-eight-length : (bs : List ℕ) → length (nextEight bs) ≡ 8
-unfolding nextEight
-next-eight-length bs = length-take 8 (bs ++ replicate 8 0) ∙ omega (arith, length-append bs (replicate 8 0), length-replicate {A = ℕ} 8 0)
-
-bytes-below : (k : ℕ) (bs : List ℕ) → Binary bs → Bytes (bytes k bs)
+bytes-below : {m : ℕ} {bs : List ℕ} (k : ℕ) → Words 2 m bs → Bytes (bytes k bs)
 unfolding bytes nextEight
-bytes-below zero bs b = tt
-bytes-below (suc k) bs b = (number-below 8 (nextEight bs) (next-eight-binary bs b) (next-eight-length bs), bytes-below k (drop 8 bs) (all-drop _ 8 bs b))
+bytes-below zero b = tt
+bytes-below (suc k) b = (number-below (next-eight-words b), bytes-below k (drop-words b 8))
 
 -- n bits and the others, with zeros past the end
 first-and-rest : (n r m : ℕ) (bs : List ℕ) → n ≤ r → length bs ≤ n + m
@@ -64,14 +62,14 @@ first-and-rest (suc n) r m (b ∷ bs) l h =
     let e : n + m - length bs ≡ suc n + m - suc (length bs) = omega arith in
     ap (λ (t : List ℕ). b ∷ t) (first-and-rest n r m bs (omega arith) (omega arith) ∙ ap (λ k. bs ++ replicate k 0) e)
 
-unpacked-bytes : (k : ℕ) (bs : List ℕ) → Binary bs → length bs ≤ 8 * k → unpacked (bytes k bs) ≡ bs ++ replicate (8 * k - length bs) 0
+unpacked-bytes : {m : ℕ} (k : ℕ) (bs : List ℕ) → Words 2 m bs → length bs ≤ 8 * k → unpacked (bytes k bs) ≡ bs ++ replicate (8 * k - length bs) 0
 unfolding unpacked bytes nextEight
 unpacked-bytes zero [] b h = refl
 unpacked-bytes zero (x ∷ bs) b h = absurd (omega arith)
 unpacked-bytes (suc k) bs b h =
     ap₂ _++_
-    (bits-number 8 (nextEight bs) (next-eight-binary bs b) (next-eight-length bs))
-    (unpacked-bytes k (drop 8 bs) (all-drop _ 8 bs b) (omega (arith, length-drop 8 bs)))
+    (bits-number (next-eight-words b))
+    (unpacked-bytes k (drop 8 bs) (drop-words b 8) (omega (arith, length-drop 8 bs)))
     ∙ first-and-rest 8 8 (8 * k) bs (lit≤ tt) (omega arith)
     ∙ let e : 8 + 8 * k - length bs ≡ 8 * suc k - length bs = omega arith in ap (λ m. bs ++ replicate m 0) e
 
@@ -92,11 +90,11 @@ pub packed-length : (bs : List ℕ) → length (packed bs) ≡ (length bs + 7) /
 unfolding packed
 packed-length bs = bytes-length ((length bs + 7) / 8) bs
 
-pub packed-below : (bs : List ℕ) → Binary bs → Bytes (packed bs)
+pub packed-below : {m : ℕ} (bs : List ℕ) → Words 2 m bs → Bytes (packed bs)
 unfolding packed
-packed-below bs b = bytes-below ((length bs + 7) / 8) bs b
+packed-below bs b = bytes-below ((length bs + 7) / 8) b
 
 -- fewer than eight zeros fill the last byte
-pub unpacked-packed : (bs : List ℕ) → Binary bs → unpacked (packed bs) ≡ bs ++ replicate (8 * ((length bs + 7) / 8) - length bs) 0
+pub unpacked-packed : {m : ℕ} (bs : List ℕ) → Words 2 m bs → unpacked (packed bs) ≡ bs ++ replicate (8 * ((length bs + 7) / 8) - length bs) 0
 unfolding packed
 unpacked-packed bs b = unpacked-bytes ((length bs + 7) / 8) bs b (omega arith)

@@ -13,7 +13,7 @@ use Rattle.algebra.specs.Lists.{All}
 use Rattle.card.specs.Bits.{bits, number, numberFrom, unpacked}
 use Rattle.card.specs.Card.{allBits, fieldAt, fieldsAt}
 use Rattle.card.proofs.Bits.{bits-length, bit-of-bits, numberFrom-append}
-use Rattle.card.proofs.Packed.{unpacked-all-bits, unpacked-length, unpacked-binary}
+use Rattle.card.proofs.Packed.{unpacked-all-bits, unpacked-length, unpacked-words}
 use Rattle.card.proofs.Fields.{all-bits-bit, field-below, field-here, field-skip}
 
 -- bit i of words of w bits stands in word i / w, behind i % w others, with e after it
@@ -23,7 +23,7 @@ words-bit w words i e h k =
     ∙ all-bits-bit w words (i / w) (i % w) (omega arith) k
     ∙ bit-of-bits w (getD words (i / w) 0) (i % w) e h
 
-pub unpacked-bit : (ys : List ℕ) (i : ℕ) → i < 8 * length ys → getD (unpacked ys) i 0 ≡ getD ys (i / 8) 0 / 2 ^ (7 - i % 8) % 2
+unpacked-bit : (ys : List ℕ) (i : ℕ) → i < 8 * length ys → getD (unpacked ys) i 0 ≡ getD ys (i / 8) 0 / 2 ^ (7 - i % 8) % 2
 unpacked-bit ys i h = ap (λ bs. getD bs i 0) (unpacked-all-bits ys) ∙ words-bit 8 ys i (7 - i % 8) (omega arith) (omega arith)
 
 -- one more bit
@@ -42,7 +42,7 @@ module _ (ys : List ℕ) (i w : ℕ) (fits : i + w ≤ 8 * length ys) where
   field-small : (j value : ℕ) → value ≡ fieldAt (unpacked ys) i j → j ≤ w → w ≤ 16 → value < 65536
   field-small j value v h m =
       let short : j ≤ 16 = omega arith in
-      rw v (lt-of-lt-of-le (field-below (unpacked ys) (unpacked-binary ys) i j (omega (arith, unpacked-length ys))) (pow-mono short))
+      rw v (lt-of-lt-of-le (field-below (unpacked-words ys) i j (omega arith)) (pow-mono short))
 
   -- the number after one more bit is small too
   pub field-turn-small : (j value b : ℕ) → value ≡ fieldAt (unpacked ys) i j → b ≡ getD (unpacked ys) (i + j) 0 → j < w → w ≤ 16 → value * 2 + b < 65536
@@ -52,7 +52,7 @@ module _ (ys : List ℕ) (i w : ℕ) (fits : i + w ≤ 8 * length ys) where
   field-end j value v l m = v ∙ ap (fieldAt (unpacked ys) i) (le-antisymm l m)
 
   pub field-end-below : (j value : ℕ) → value ≡ fieldAt (unpacked ys) i j → j ≤ w → w ≤ j → value < 2 ^ w
-  field-end-below j value v l m = rw (field-end j value v l m) (field-below (unpacked ys) (unpacked-binary ys) i w (omega (arith, unpacked-length ys)))
+  field-end-below j value v l m = rw (field-end j value v l m) (field-below (unpacked-words ys) i w (omega arith))
 
 pub field-starts : (bs : List ℕ) (i : ℕ) → 0 ≡ fieldAt bs i 0
 unfolding fieldAt numberFrom

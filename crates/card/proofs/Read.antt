@@ -11,27 +11,28 @@ use lib.Seq.{take-add, drop-drop}
 use Rattle.algebra.specs.Lists.{all}
 use Rattle.card.specs.Bits.{bits, unpacked}
 use Rattle.card.specs.Card.{width, wordCount, allBits, card, cardLength, fieldAt, fieldsAt, cardPrime, cardDegree, cardKind, cardWords, fillBits}
-use Rattle.card.proofs.Bits.{Binary}
-use Rattle.card.proofs.Lists.{isZero, all-zeros}
-use Rattle.card.proofs.Packed.{Bytes, unpacked-length, unpacked-binary, unpacked-injective}
-use Rattle.card.proofs.Fields.{field-below, bits-of-field, bits-of-fields, fields-length}
+use Rattle.array.specs.Words.{Words}
+use Rattle.card.proofs.Zeros.{isZero, all-zeros}
+use Rattle.card.proofs.Packed.{Bytes, unpacked-length, unpacked-words, unpacked-injective}
+use Rattle.card.proofs.Fields.{bits-of-field, bits-of-fields}
+use Rattle.card.proofs.Header.{word-count}
 use Rattle.card.proofs.Written.{header, header-append, fillCount, unpacked-card, card-bytes}
 
 take-more : (n m i : ℕ) (bs : List ℕ) → take n (drop i bs) ++ take m (drop (i + n) bs) ≡ take (n + m) (drop i bs)
 take-more n m i bs = ap (λ (l : List ℕ). take n (drop i bs) ++ take m l) (sym (drop-drop n i bs)) ∙ sym (take-add n m (drop i bs))
 
 -- the bits of a header and of k words that were read are the first 24 + k·w bits
-bits-read : (bs : List ℕ) → Binary bs → (w k : ℕ) → 24 + k * w ≤ length bs
+bits-read : {m : ℕ} (bs : List ℕ) → Words 2 m bs → (w k : ℕ) → 24 + k * w ≤ m
     → header (fieldAt bs 0 16) (fieldAt bs 16 4 + 1) (fieldAt bs 20 4) (allBits w (fieldsAt bs 24 w k)) ≡ take (24 + k * w) bs
 unfolding header
 bits-read bs b w k h =
     let less : fieldAt bs 16 4 + 1 - 1 ≡ fieldAt bs 16 4 = omega arith in
     let total : 16 + (4 + (4 + k * w)) ≡ 24 + k * w = omega arith in
     ap₂ _++_
-    (bits-of-field bs b 0 16 (omega arith))
+    (bits-of-field b 0 16 (omega arith))
     (ap₂ _++_
-    (ap (bits 4) less ∙ bits-of-field bs b 16 4 (omega arith))
-    (ap₂ _++_ (bits-of-field bs b 20 4 (omega arith)) (bits-of-fields bs b 24 w k h) ∙ take-more 4 (k * w) 20 bs)
+    (ap (bits 4) less ∙ bits-of-field b 16 4 (omega arith))
+    (ap₂ _++_ (bits-of-field b 20 4 (omega arith)) (bits-of-fields b 24 w k h) ∙ take-more 4 (k * w) 20 bs)
     ∙ take-more 4 (4 + k * w) 16 bs)
     ∙ take-more 16 (4 + (4 + k * w)) 0 bs
     ∙ ap (λ m. take m bs) total
@@ -41,25 +42,13 @@ module _ (ys : List ℕ) (are-bytes : Bytes ys) (long : length ys ≡ cardLength
   usedBits : ℕ
   usedBits = 24 + wordCount (cardDegree ys) (cardKind ys) * width (cardPrime ys)
 
-  header-fits : 24 ≤ length (unpacked ys)
-  unfolding cardLength
-  header-fits = omega (arith, long, unpacked-length ys)
-
-  used-most : usedBits ≤ length (unpacked ys)
+  used-most : usedBits ≤ 8 * length ys
   unfolding usedBits cardLength
-  used-most = omega (arith, long, unpacked-length ys)
-
-  pub degree-range : (1 ≤ cardDegree ys) × (cardDegree ys ≤ 16)
-  unfolding cardDegree
-  degree-range = omega (arith, field-below (unpacked ys) (unpacked-binary ys) 16 4 (omega (arith, header-fits)))
-
-  pub count : length (cardWords ys) ≡ wordCount (cardDegree ys) (cardKind ys)
-  unfolding cardWords
-  count = fields-length (unpacked ys) 24 (width (cardPrime ys)) (wordCount (cardDegree ys) (cardKind ys))
+  used-most = omega (arith, long)
 
   bits-used : header (cardPrime ys) (cardDegree ys) (cardKind ys) (allBits (width (cardPrime ys)) (cardWords ys)) ≡ take usedBits (unpacked ys)
   unfolding usedBits cardPrime cardDegree cardKind cardWords
-  bits-used = bits-read (unpacked ys) (unpacked-binary ys) (width (cardPrime ys)) (wordCount (cardDegree ys) (cardKind ys)) used-most
+  bits-used = bits-read (unpacked ys) (unpacked-words ys) (width (cardPrime ys)) (wordCount (cardDegree ys) (cardKind ys)) used-most
 
   bits-filling : all isZero (fillBits ys) ≡ true → drop usedBits (unpacked ys) ≡ replicate (fillCount (cardPrime ys) (cardDegree ys) (cardKind ys) (cardWords ys)) 0
   unfolding usedBits fillBits fillCount cardLength
@@ -67,7 +56,7 @@ module _ (ys : List ℕ) (are-bytes : Bytes ys) (long : length ys ≡ cardLength
       all-zeros (drop usedBits (unpacked ys)) zeros ∙ ap (λ k. replicate k 0) filling
     where
       filling : length (drop usedBits (unpacked ys)) ≡ fillCount (cardPrime ys) (cardDegree ys) (cardKind ys) (cardWords ys)
-      filling = length-drop usedBits (unpacked ys) ∙ rw count (omega (arith, unpacked-length ys, long))
+      filling = length-drop usedBits (unpacked ys) ∙ rw (word-count ys) (omega (arith, unpacked-length ys, long))
 
   pub written-again : all isZero (fillBits ys) ≡ true → card (cardPrime ys) (cardDegree ys) (cardKind ys) (cardWords ys) ≡ ys
   written-again zeros =

@@ -1,9 +1,10 @@
 -- The reader's refusals in their order: at each return of the code the conditions before it do not apply and its own does.
 --   bodyNumber ys p count   the refusals after those of the header
-use mathlib.Core.Path.{_≡_}
+use mathlib.Core.Path.{_≡_, sym, _∙_}
 use mathlib.Core.Bool.{Bool, true, false, not}
 use mathlib.Core.List.{List, [], _∷_}
 use Prim.Native.Nat.{ℕ, _+_, _*_, _/_, _≤_, _<_}
+use native.Mathlib.Omega.{arith}
 use lib.Dec.{eqb}
 use lib.ListN.{length, drop}
 use borrow.Author.Tests.{eq-eqb, ne-eqb, lt-ltb, le-ltb, not-true, not-false}
@@ -13,9 +14,10 @@ use Rattle.array.specs.Words.{allBelow}
 use Rattle.refusal.specs.Refusal.{refuse, badPrime, badWord}
 use Rattle.card.specs.Bits.{unpacked}
 use Rattle.card.specs.Card.{width, badKind, wordCount, cardLength, fieldAt, fieldsAt, cardPrime, cardDegree, cardKind, cardWords, fillBits, readNumber}
-use Rattle.card.proofs.Lists.{isZero}
-use Rattle.card.proofs.Conditions.{bad-length-one, length-good, bad-word-one}
-use Rattle.card.proofs.WordCount.{Counted, counted-refused, counted-good}
+use Rattle.refusal.proofs.Lists.{given-lengths}
+use Rattle.card.proofs.Zeros.{isZero}
+use Rattle.card.proofs.OneList.{bad-length-one, bad-word-one}
+use Rattle.card.proofs.CardKinds.{none-refused, some-good}
 
 abbrev bodyNumber : List ℕ → ℕ → ℕ → ℕ
 bodyNumber ys p count =
@@ -49,21 +51,21 @@ module _ (ys out : List ℕ) where
   module _ (room : length out ≡ 64) where
     pub read-short : length ys < 3 → 11 ≡ readNumber ys out
     unfolding readNumber
-    read-short h = rw (length-good 64 out room, lt-ltb (length ys) 3 h)
+    read-short h = rw (given-lengths 64 (out ∷ []) (room, tt), lt-ltb (length ys) 3 h)
 
     module _ (long : 3 ≤ length ys) (p : ℕ) (b : Bool) (ep : p ≡ fieldAt (unpacked ys) 0 16) (eb : b ≡ isPrime p) where
       pub read-prime : not b ≡ true → 1 ≡ readNumber ys out
       unfolding readNumber badPrime cardPrime
-      read-prime h = rw (length-good 64 out room, le-ltb (length ys) 3 long, ← ep, ← eb, h)
+      read-prime h = rw (given-lengths 64 (out ∷ []) (room, tt), le-ltb (length ys) 3 long, ← ep, ← eb, h)
 
-      module _ (prime : not b ≡ false) (m kind count : ℕ) (em : m ≡ fieldAt (unpacked ys) 16 4) (ek : kind ≡ fieldAt (unpacked ys) 20 4) (counted : Counted (m + 1) kind count) where
+      module _ (prime : not b ≡ false) (m kind count : ℕ) (em : m ≡ fieldAt (unpacked ys) 16 4) (ek : kind ≡ fieldAt (unpacked ys) 20 4) (counted : count ≡ wordCount (m + 1) kind) where
         -- with p in order, the kind decides and then the body
         after-prime : readNumber ys out ≡ refuse 12 (badKind kind) (bodyNumber ys p (wordCount (m + 1) kind))
         unfolding readNumber badPrime cardPrime cardDegree cardKind cardWords cardLength fillBits
-        after-prime = rw (length-good 64 out room, le-ltb (length ys) 3 long, ← ep, ← eb, prime, ← em, ← ek)
+        after-prime = rw (given-lengths 64 (out ∷ []) (room, tt), le-ltb (length ys) 3 long, ← ep, ← eb, prime, ← em, ← ek)
 
         pub read-kind : count ≡ 0 → 12 ≡ readNumber ys out
-        read-kind h = rw (after-prime, counted-refused (m + 1) kind count counted h)
+        read-kind h = rw (after-prime, none-refused (m + 1) kind (omega arith) (sym counted ∙ h))
 
         pub read-body : (r : ℕ) → (count ≡ 0 → ⊥) → r ≡ bodyNumber ys p count → r ≡ readNumber ys out
-        read-body r h e = let good = counted-good (m + 1) kind count counted h in rw (after-prime, good .1, ← good .0) e
+        read-body r h e = rw (after-prime, some-good (m + 1) kind (λ z. h (counted ∙ z)), ← counted) e

@@ -1,11 +1,11 @@
 -- The reader's tests of every fill bit and of every word, each a scan from the front.
 use mathlib.Core.Path.{_≡_, sym, ap, _∙_}
 use mathlib.Core.Bool.{true, false}
-use mathlib.Core.List.{List, _++_}
+use mathlib.Core.List.{List}
 use Prim.Native.Nat.{ℕ, suc, _+_, _-_, _*_, _≤_, _<_}
 use native.Mathlib.Nat.{mul-le-mul-right}
 use native.Mathlib.Omega.{arith}
-use lib.ListN.{length, getD, drop, replicate, length-append, length-drop, length-replicate, List·getD-eq-default}
+use lib.ListN.{length, getD, drop, length-drop}
 use lib.Seq.{getD-drop}
 use borrow.Author.Tests.{eq-eqb, ne-eqb}
 use Rattle.algebra.specs.Lists.{all}
@@ -14,7 +14,7 @@ use Rattle.array.proofs.Below.{below-next, below-fails, below-holds}
 use Rattle.algebra.proofs.Scan.{scan-next, scan-fails, scan-holds}
 use Rattle.card.specs.Bits.{unpacked}
 use Rattle.card.specs.Card.{fieldAt, fieldsAt}
-use Rattle.card.proofs.Lists.{isZero, getD-zeros}
+use Rattle.card.proofs.Zeros.{isZero}
 use Rattle.card.proofs.Packed.{unpacked-length}
 use Rattle.card.proofs.Fields.{fields-length}
 use Rattle.card.proofs.Places.{word-at}
@@ -54,21 +54,3 @@ pub place-fits : (m w count k : ℕ) → 24 + count * w ≤ m → k < count → 
 place-fits m w count k fits h =
     let most : suc k * w ≤ count * w = mul-le-mul-right w h in
     omega arith
-
--- the words, and zeros after the last
-abbrev pub entries : List ℕ → ℕ → ℕ → List ℕ
-entries ys w count = fieldsAt (unpacked ys) 24 w count ++ replicate (64 - count) 0
-
-pub entry-word : (ys : List ℕ) (w count k r : ℕ) → k < count → r ≡ fieldAt (unpacked ys) (24 + k * w) w → r ≡ getD (entries ys w count) k 0
-entry-word ys w count k r h e = e ∙ sym (getD-zeros (fieldsAt (unpacked ys) 24 w count) (64 - count) k ∙ word-at (unpacked ys) 24 w count k h)
-
-pub entry-zero : (ys : List ℕ) (w count k : ℕ) → count ≤ k → 0 ≡ getD (entries ys w count) k 0
-entry-zero ys w count k h =
-    sym
-    (getD-zeros (fieldsAt (unpacked ys) 24 w count) (64 - count) k
-    ∙ List·getD-eq-default (fieldsAt (unpacked ys) 24 w count) 0 (omega (arith, fields-length (unpacked ys) 24 w count)))
-
-pub entries-length : (ys out : List ℕ) (w count : ℕ) → count ≤ 64 → length out ≡ 64 → length (entries ys w count) ≡ length out
-entries-length ys out w count h e =
-    length-append (fieldsAt (unpacked ys) 24 w count) (replicate (64 - count) 0)
-    ∙ omega (arith, fields-length (unpacked ys) 24 w count, length-replicate {A = ℕ} (64 - count) 0)

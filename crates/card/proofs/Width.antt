@@ -1,16 +1,15 @@
 -- The width of a card's words: the least w with p − 1 < 2^w. Up to 65,535 it is at most 16, and every number below p has w bits.
 use mathlib.Core.Path.{_≡_, ap}
 use mathlib.Core.Bool.{Bool}
-use mathlib.Core.List.{List, [], _∷_}
 use Prim.Native.Nat.{ℕ, zero, suc, _+_, _-_, _*_, _^_, _≤_, _<_}
 use mathlib.Core.Logic.{_⊎_, inl, inr}
-use native.Mathlib.Nat.{le-antisymm, eq-or-lt-of-le, pow-suc}
+use native.Mathlib.Nat.{le-antisymm, eq-or-lt-of-le, mul-le-mul, pow-suc}
 use native.Mathlib.Numerals.{add-one}
 use native.Mathlib.Omega.{arith}
 use lib.Dec.{ltb, lit≤}
 use lib.Pow.{pow-pos}
 use borrow.Author.Tests.{ltb-true, lt-ltb}
-use Rattle.algebra.specs.Lists.{All, range}
+use Rattle.algebra.specs.Lists.{range}
 use Rattle.algebra.proofs.Search.{range-bounds, range-member, first-found, first-smallest, Found}
 use Rattle.card.specs.Card.{width}
 
@@ -21,13 +20,13 @@ width-found : (p : ℕ) → p ≤ 65535 → Found (enough p) (range 0 17) (width
 unfolding width
 width-found p h = first-found (enough p) 0 (range 0 17) 16 (range-member 0 17 16 (lit≤ tt) (lit≤ tt)) (lt-ltb (p - 1) (2 ^ 16) (omega arith))
 
-pub width-enough : (p : ℕ) → p ≤ 65535 → p - 1 < 2 ^ width p
+width-enough : (p : ℕ) → p ≤ 65535 → p - 1 < 2 ^ width p
 width-enough p h = ltb-true (p - 1) (2 ^ width p) (width-found p h .1)
 
 pub width-most : (p : ℕ) → p ≤ 65535 → width p ≤ 16
 width-most p h = omega (arith, range-bounds 0 17 (width p) (width-found p h .0))
 
-pub width-least : (p w : ℕ) → w ≤ 16 → p - 1 < 2 ^ w → width p ≤ w
+width-least : (p w : ℕ) → w ≤ 16 → p - 1 < 2 ^ w → width p ≤ w
 unfolding width
 width-least p w l h = first-smallest (enough p) 0 0 17 w (omega arith) (omega arith) (lt-ltb (p - 1) (2 ^ w) h)
 
@@ -38,12 +37,12 @@ width-positive p l h = by-width (width p) (width-enough p h)
     by-width zero k = absurd (omega arith)
     by-width (suc w) k = omega arith
 
-below-fits : (p a : ℕ) → p ≤ 65535 → a < p → a < 2 ^ width p
-below-fits p a h l = omega (arith, width-enough p h)
+pub width-holds : (p : ℕ) → p ≤ 65535 → p ≤ 2 ^ width p
+width-holds p h = omega (arith, width-enough p h)
 
-pub all-below-fit : (p : ℕ) (words : List ℕ) → p ≤ 65535 → All (λ a. a < p) words → All (λ a. a < 2 ^ width p) words
-all-below-fit p [] h l = tt
-all-below-fit p (a ∷ words) h l = (below-fits p a h (l .0), all-below-fit p words h (l .1))
+-- 64 words of 16 bits have 1,024 bits
+pub bits-most : (w count : ℕ) → w ≤ 16 → count ≤ 64 → count * w ≤ 1024
+bits-most w count lw lc = mul-le-mul lc lw
 
 -- doubling a power of two until it is p or more
 pub width-next : (p w q : ℕ) → p ≤ 65535 → q ≡ 2 ^ w → w ≤ width p → q < p → w + 1 ≤ width p

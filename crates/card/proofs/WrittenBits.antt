@@ -9,7 +9,7 @@ use lib.Seq.{getD-append-add}
 use Rattle.card.specs.Bits.{bits, unpacked}
 use Rattle.card.specs.Card.{width, allBits, card, fieldAt}
 use Rattle.card.proofs.Bits.{bits-length, bit-of-bits}
-use Rattle.card.proofs.Lists.{getD-zeros}
+use Rattle.card.proofs.Zeros.{getD-zeros}
 use Rattle.card.proofs.Fields.{all-bits-length}
 use Rattle.card.proofs.Places.{words-bit, field-end, byte-is-field, byte-fits}
 use Rattle.card.proofs.Written.{header, header-split, header-place, fillCount, unpacked-card, card-bytes}

@@ -2,14 +2,14 @@
 -- of w bits each. w is the number of binary digits of p − 1."
 --   width p                    w
 --   badKind kind               12: kind is neither 1 (a job: T1, T2) nor 2 (a pair card: T1, T2, S, R)
---   wordCount n kind           how many coefficients a card carries: 2n or 4n
+--   wordCount n kind           how many coefficients a card carries: "2n words for a job and 4n for a pair card"; no card is of another kind: 0
 --   card p n kind words        the card
 --   cardLength p n kind        its bytes
 --   writeNumber, writeOutput   the writer's answer: 1, 2, 12, 3, 4
 --   cardPrime, cardDegree, cardKind, cardWords   what a byte string says, read as a card
 --   fillBits ys                the bits behind the coefficients
 --   readNumber, readPrime, readDegree, readKind, readOutput   the reader's answer: 3, 11, 1, 12, 11, 13, 4; refused, every other field is 0
-use mathlib.Core.Bool.{Bool, _||_, not}
+use mathlib.Core.Bool.{Bool, true, false, _||_, not}
 use mathlib.Core.List.{List, [], _∷_, _++_}
 use Prim.Native.Nat.{ℕ, zero, suc, _+_, _-_, _*_, _/_, _^_}
 use lib.Dec.{ltb, eqb}
@@ -25,7 +25,7 @@ unfoldable pub badKind : ℕ → Bool
 badKind kind = not (eqb kind 1 || eqb kind 2)
 
 abbrev pub wordCount : ℕ → ℕ → ℕ
-wordCount n kind = 2 * kind * n
+wordCount n kind = elim (eqb kind 1) [ true ↦ 2 * n | false ↦ elim (eqb kind 2) [ true ↦ 4 * n | false ↦ 0 ] ]
 
 unfoldable pub allBits : ℕ → List ℕ → List ℕ
 allBits w [] = []

@@ -1,10 +1,8 @@
 // The layout of a card: a header of 24 bits (p in 16, n − 1 in 4, kind in 4), then words of w bits each. Only this repository calls these
 // functions, so they state what they require.
 ghost use mathlib.Core.Path.{_≡_};
-ghost use mathlib.Core.Bool.{true, false};
-ghost use mathlib.Core.Logic.{_⊎_};
 ghost use Prim.Native.Nat.{_+_, _*_, _/_, _%_, _^_, _≤_, _<_};
-ghost use Rattle.card.specs.Card.{width as widthOf, badKind, wordCount};
+ghost use Rattle.card.specs.Card.{width as widthOf, wordCount};
 
 // Bit k of v, counted from the least significant.
 pub fn digit(v: u32, k: u32) -> u32
@@ -30,9 +28,8 @@ pub fn width(p: u32) -> usize
 
 // How many words a card of this kind carries: T1 and T2 for a job, T1, T2, S and R for a pair card. Every other kind is refused: 0.
 pub fn word_count(n: u32, kind: u32) -> usize
-    requires { ⌜ (1 ≤ n) × (n ≤ 16) ⌝ }
-    ensures cases { λ r. ⌜ ((r ≡ 0) × (badKind kind ≡ true)) ⊎ ((r ≡ wordCount n kind) × (0 < r) × (badKind kind ≡ false)) ⌝ }
-    ensures most { λ r. ⌜ r ≤ 64 ⌝ }
+    requires { ⌜ n ≤ 16 ⌝ }
+    ensures { λ r. ⌜ (r ≡ wordCount n kind) × (r ≤ 64) ⌝ }
 {
     match kind {
         1 => 2 * n as usize,

@@ -11,6 +11,7 @@ use crate::layout::word_count;
 use array::Word;
 use array::list::below;
 use modular::prime::is_prime;
+use refusal::sent::is_degree;
 
 // Bit i of the words, of w bits each, and 0 after the last.
 fn word_bit(w: usize, words: &[Word], i: usize) -> u32
@@ -75,10 +76,7 @@ fn fault(p: u32, n: u32, kind: u32, words: &[Word], out: &[u8]) -> u32
     if !is_prime(p) {
         return 1;
     }
-    if n < 1 {
-        return 2;
-    }
-    if n > 16 {
+    if !is_degree(n) {
         return 2;
     }
     let count = word_count(n, kind);

@@ -1,6 +1,6 @@
 -- `layout::bit_count`: 64 words of 16 bits have 1,024 bits.
 use native.Mathlib.Omega.{arith}
-use Rattle.card.proofs.WordCount.{bits-most}
+use Rattle.card.proofs.Width.{bits-most}
 use Rattle.card.proofs.layout.bit_count.Statement.{statement}
 use Rattle.card.proofs.layout.bit_count.Tie as tie
 

@@ -1,6 +1,6 @@
 -- `writer::fault`: one law for each return.
 use borrow.Author.Needs.{needs}
-use Rattle.card.proofs.WriteFaults.{prime-most, write-prime, write-low, write-high, write-kind, write-count, write-size, write-word, write-none}
+use Rattle.card.proofs.WriteFaults.{prime-most, degree-most, write-prime, write-degree, write-kind, write-count, write-size, write-word, write-none}
 use Rattle.card.proofs.writer.fault.Statement.{statement}
 use Rattle.card.proofs.writer.fault.Tie as tie
 
@@ -10,22 +10,20 @@ is-prime-requires c κs = search needs
 returns : tie.Need-returns
 returns c = search write-prime
 
-returns-2 : tie.Need-returns-2
-returns-2 c = search write-low
+is-degree-requires : tie.Need-is-degree-requires
+is-degree-requires c κs = search needs
 
-returns-3 : tie.Need-returns-3
-returns-3 c = search write-high
+returns-2 : tie.Need-returns-2
+returns-2 c = search write-degree
 
 word-count-requires : tie.Need-word-count-requires
-word-count-requires c κs = search needs
+word-count-requires c κs = degree-most _ _ (c .before .is-degree .ensures) (c .if2 .left)
+
+returns-3 : tie.Need-returns-3
+returns-3 c = search write-kind
 
 returns-4 : tie.Need-returns-4
-returns-4 c = search write-kind
-
-returns-5 : tie.Need-returns-5
-returns-5 c =
-    let degree = c .before .before .before in
-    write-count _ _ _ _ _ _ (degree .before .before .before .is-prime .ensures) (degree .before .before .if1 .left) (degree .before .if2 .left) (degree .if3 .left) _ (c .before .before .word-count .ensures .0) (c .before .if4 .left) (c .if5 .taken)
+returns-4 c = search write-count
 
 width-requires : tie.Need-width-requires
 width-requires c κs = search prime-most
@@ -33,20 +31,20 @@ width-requires c κs = search prime-most
 bit-count-requires : tie.Need-bit-count-requires
 bit-count-requires c κs = search needs
 
-add-if6 : tie.Need-add-if6
-add-if6 c = search needs
+add-if5 : tie.Need-add-if5
+add-if5 c = search needs
 
-returns-6 : tie.Need-returns-6
-returns-6 c = search write-size
+returns-5 : tie.Need-returns-5
+returns-5 c = search write-size
 
 below-requires : tie.Need-below-requires
 below-requires c κs = search needs
 
-returns-7 : tie.Need-returns-7
-returns-7 c = search write-word
+returns-6 : tie.Need-returns-6
+returns-6 c = search write-word
 
-returns-8 : tie.Need-returns-8
-returns-8 c = search write-none
+returns-7 : tie.Need-returns-7
+returns-7 c = search write-none
 
 pub fault-spec : {M : Type 1} → statement M
 fault-spec =
@@ -54,15 +52,15 @@ fault-spec =
     (tie.spec
     is-prime-requires
     returns
+    is-degree-requires
     returns-2
-    returns-3
     word-count-requires
+    returns-3
     returns-4
-    returns-5
     width-requires
     bit-count-requires
-    add-if6
-    returns-6
+    add-if5
+    returns-5
     below-requires
-    returns-7
-    returns-8)
+    returns-6
+    returns-7)

@@ -1,0 +1,89 @@
+// What the program prints for a card.
+ghost use mathlib.Core.Path.{_≡_};
+ghost use Prim.Native.Nat.{_*_, _≤_};
+ghost use lib.ListN.{length, replicate, take};
+ghost use Rattle.card.specs.Card.{card, cardLength, writeNumber};
+ghost use Rattle.io.specs.Counts.{Counts};
+ghost use Rattle.pair.specs.Pair.{checkNumber};
+ghost use Rattle.refusal.specs.Models.{Models};
+ghost use Rattle.pair.specs.Theorem.{Given};
+ghost use Rattle.answer.specs.Answer.{answerText, jobText, pairCardText, pairText, part};
+ghost use Rattle.text.specs.Text.{Begins};
+use crate::job::find_pair;
+use crate::job::write_card;
+use crate::lines::put_pair;
+use crate::lines::put_refusal;
+use crate::lines::put_valid;
+use array::Word;
+use card::reader::read;
+use pair::checker::check;
+
+// The line of the pair card of the words, to which no refusal of the writer applies.
+fn print_card(p: u32, n: u32, words: &[Word], text: &mut [u8]) -> usize
+    requires { ⌜ (writeNumber p n 2 (now words) (replicate (cardLength p n 2) 0) ≡ 0) × (268 ≤ length (now text)) ⌝ }
+    ensures { λ r. ⌜ Begins (pairText (card p n 2 (now (words .entry)))) (now (text .exit)) r ⌝ }
+{
+    let mut bytes = [0u8; 131];
+    let size = write_card(p, n, words, &mut bytes);
+    put_pair(text, &bytes[..size])
+}
+
+// A job: the words begin with T1 and T2.
+fn answer_job(p: u32, n: u32, words: &mut [Word], text: &mut [u8]) -> usize
+    requires { ⌜ (n ≤ 16) × (length (now words) ≡ 64) × (268 ≤ length (now text)) × Models p n (part n (now words) 0) (part n (now words) 1) ⌝ }
+    ensures { λ r. ⌜ Begins (jobText p n (part n (now (words .entry)) 0) (part n (now (words .entry)) 1)) (now (text .exit)) r ⌝ }
+{
+    let number = find_pair(p, n, words);
+    if number != 0 {
+        return put_refusal(text, number);
+    }
+    print_card(p, n, &words[..4 * n as usize], text)
+}
+
+// The checker's call for T1, T2, S and R, the first four parts of the words.
+fn check_in(p: u32, n: u32, words: &[Word]) -> u32
+    requires { ⌜ (n ≤ 16) × (length (now words) ≡ 64) ⌝ }
+    ensures { λ number. ⌜ number ≡
+        checkNumber p n (part n (now (words .entry)) 0) (part n (now (words .entry)) 1) (part n (now (words .entry)) 2) (part n (now (words .entry)) 3) ⌝ }
+{
+    let k = n as usize;
+    check(
+        p,
+        n,
+        &words[..k],
+        &words[k..2 * k],
+        &words[2 * k..3 * k],
+        &words[3 * k..4 * k],
+    )
+}
+
+// A pair card: the words begin with T1, T2, S and R.
+fn answer_pair(p: u32, n: u32, words: &[Word], text: &mut [u8]) -> usize
+    requires { ⌜ (n ≤ 16) × (length (now words) ≡ 64) × (268 ≤ length (now text))
+        × Given p n (part n (now words) 0) (part n (now words) 1) (part n (now words) 2) (part n (now words) 3) ⌝ }
+    ensures { λ r. ⌜ Begins
+        (pairCardText p (part n (now (words .entry)) 0) (part n (now (words .entry)) 1) (part n (now (words .entry)) 2) (part n (now (words .entry)) 3))
+        (now (text .exit)) r ⌝ }
+{
+    let number = check_in(p, n, words);
+    if number == 0 {
+        return put_valid(text);
+    }
+    put_refusal(text, number)
+}
+
+// What is printed for the card: the first r bytes of the text.
+pub fn answer(card: &[u8], text: &mut [u8; 268]) -> usize
+    ensures text { λ r. ⌜ take r (now (text .exit)) ≡ answerText (now (card .entry)) ⌝ }
+    ensures count { λ r. ⌜ Counts r (now (text .exit)) ⌝ }
+{
+    let mut words = [0; 64];
+    let head = read(card, &mut words);
+    if head.number != 0 {
+        return put_refusal(text, head.number);
+    }
+    if head.kind == 1 {
+        return answer_job(head.p, head.n, &mut words, text);
+    }
+    answer_pair(head.p, head.n, &words, text)
+}

@@ -1,0 +1,5 @@
+-- Lists written one behind another (Append), digits (HexadecimalDigits, DecimalDigits), and what is proved of decimal digits (Theorem).
+pub mod Append
+pub mod HexadecimalDigits
+pub mod DecimalDigits
+pub mod Theorem

@@ -1,0 +1,4 @@
+-- Text in a list of bytes: where it stands, its digits, and what is proved of them.
+pub mod Text
+pub mod Digits
+pub mod Theorem
