@@ -5,4 +5,5 @@ pub mod TrialDivision
 pub mod Inverse
 pub mod Bezout
 pub mod Field
+pub mod Shift
 pub mod Reciprocal

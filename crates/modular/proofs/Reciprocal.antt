@@ -1,17 +1,17 @@
 -- Reduction modulo p by the reciprocal r = 2^32·t / p, with t = 2^shift. For x = h·t + l with l < t, the quotient q = h·r / 2^32 is at most x / p and
 -- less than 2 below it: leaving out l loses at most 1/16, rounding r at most h / 2^32 ≤ 15/16, and rounding q less than 1.
-use mathlib.Core.Path.{_≡_, refl, sym, ap, _∙_}
-use Prim.Native.Nat.{ℕ, suc, _+_, _-_, _*_, _/_, _%_, _^_, _≤_, _<_}
+use mathlib.Core.Path.{_≡_, sym, ap, _∙_}
+use Prim.Native.Nat.{ℕ, _+_, _-_, _*_, _/_, _%_, _^_, _≤_, _<_}
 use native.Mathlib.Decide.{decLt}
 use native.Mathlib.Nat as Nat
 use native.Mathlib.Omega.{arith}
-use lib.Count.{leadingZeros, leading-top}
-use lib.Pow.{pow-pos, pow-mono, pow-add}
+use lib.Pow.{pow-pos}
 use mir.Syntax.{w64}
 use mir.Val.{Fits}
 use Rattle.modular.specs.declared.barrett.Barrett.{Barrett}
 use Rattle.modular.specs.Barrett.{Reduces}
 use Rattle.modular.proofs.Remainder.{remainder-unique}
+use Rattle.modular.proofs.Shift.{shift-short}
 
 pub times-fits : (a b : ℕ) → a < 2 ^ 32 → b < 2 ^ 32 → Fits w64 (a * b)
 times-fits a b h l =
@@ -29,46 +29,6 @@ quotient-bounds p r t x h l q pos split low high below above from to =
     let d : h * (2 ^ 32 * t) ≤ h * (r * p + p) = Nat.mul-le-mul-left h above in
     let e : h * 16 * p ≤ 15 * 2 ^ 32 * p = Nat.mul-le-mul-right p high in
     (omega arith, omega arith)
-
--- the shift, from the place j of the highest bit of p
-module _ (p : ℕ) (big : 2 ≤ p) (small : p ≤ 2 ^ 20) where
-  bits-of : (b : ℕ) → b ≡ 64 - leadingZeros 64 p → (j : ℕ) × (b ≡ suc j) × (2 ^ j ≤ p) × (p < 2 ^ suc j)
-  bits-of b e =
-      let (j, sum, from, to) = leading-top 64 p (omega arith) (omega arith) in
-      (j, omega arith, from, to)
-
-  pub shift-none : 64 - leadingZeros 64 p < 5 → (2 ^ 0 * 16 ≤ p + 16) × (p ≤ 2 ^ 0 * 32)
-  shift-none few =
-      let (j, same, from, to) = bits-of (64 - leadingZeros 64 p) refl in
-      let l : suc j ≤ 5 = omega arith in
-      (omega arith, omega (arith, pow-mono l))
-
-  pub shift-some : 5 ≤ 64 - leadingZeros 64 p → (2 ^ (64 - leadingZeros 64 p - 5) * 16 ≤ p + 16) × (p ≤ 2 ^ (64 - leadingZeros 64 p - 5) * 32)
-  shift-some many =
-      let k : ℕ = 64 - leadingZeros 64 p - 5 in
-      let (j, same, from, to) = bits-of (64 - leadingZeros 64 p) refl in
-      let e : k + 4 ≡ j = omega arith in
-      let f : 2 ^ k * 16 ≡ 2 ^ j = sym (pow-add 2 k 4) ∙ ap (λ i. 2 ^ i) e in
-      (omega arith, omega (arith, Nat.pow-suc 2 j))
-
-pub shift-short : (p k : ℕ) → p ≤ 2 ^ 20 → 2 ^ k * 16 ≤ p + 16 → k < 17
-shift-short p k small low = go (decLt k 17)
-  where
-    go : Dec (k < 17) → k < 17
-    go (yes l) = l
-    go (no l) =
-        let h : 17 ≤ k = omega arith in
-        absurd (omega (arith, pow-mono h))
-
-pub reduces-new : (p k : ℕ) → 2 ≤ p → p ≤ 2 ^ 20 → 2 ^ k * 16 ≤ p + 16 → p ≤ 2 ^ k * 32
-    → Reduces (record { p = p; shift = k; reciprocal = (2 ^ 32 * 2 ^ k) % 2 ^ 64 / p })
-reduces-new p k big small low high = record {
-  big = big;
-  small = small;
-  low = low;
-  high = high;
-  quotient = ap (λ x. x / p) (Nat.mod-eq-of-lt (omega arith));
-}
 
 module _ (d : Barrett) (m : Reduces d) where
   pub shift-fits : d .shift < 64
@@ -94,13 +54,15 @@ module _ (d : Barrett) (m : Reduces d) where
           let h : 2 ^ 32 ≤ d .reciprocal = omega arith in
           absurd (omega (arith, reciprocal-below, Nat.mul-le-mul h above))
 
+  high-small : (x : ℕ) → 16 * x ≤ 15 * (2 ^ 32 * 2 ^ d .shift) → x / 2 ^ d .shift ≤ 15 * 2 ^ 28
+  high-small x bound = Nat.div-le-of-le-mul (2 ^ d .shift) (omega arith)
+
   -- z is the product of which q is the high part
   bounds : (x z : ℕ) → 16 * x ≤ 15 * (2 ^ 32 * 2 ^ d .shift) → z ≡ x / 2 ^ d .shift * d .reciprocal → (z / 2 ^ 32 * d .p ≤ x) × (x < z / 2 ^ 32 * d .p + 2 * d .p)
   bounds x z bound e =
-      let high : x / 2 ^ d .shift ≤ 15 * 2 ^ 28 = Nat.div-le-of-le-mul (2 ^ d .shift) (omega arith) in
       let rest : x % 2 ^ d .shift < 2 ^ d .shift = Nat.mod-lt x (pow-pos (d .shift)) in
       quotient-bounds (d .p) (d .reciprocal) (2 ^ d .shift) x (x / 2 ^ d .shift) (x % 2 ^ d .shift) (z / 2 ^ 32)
-      positive (Nat.div-add-mod' x (2 ^ d .shift)) (omega (arith, m .low)) (omega arith)
+      positive (Nat.div-add-mod' x (2 ^ d .shift)) (omega (arith, m .low)) (omega (arith, high-small x bound))
       reciprocal-below (omega (arith, reciprocal-above)) (omega arith) (omega arith)
 
   module _ (x : ℕ) (few : x ≤ 64 * (d .p * d .p)) where
@@ -109,9 +71,7 @@ module _ (d : Barrett) (m : Reduces d) where
     bound = omega (arith, Nat.mul-le-mul (m .small) (m .high))
 
     pub high-short : x / 2 ^ d .shift < 2 ^ 32
-    high-short =
-        let high : x / 2 ^ d .shift ≤ 15 * 2 ^ 28 = Nat.div-le-of-le-mul (2 ^ d .shift) (omega (arith, bound)) in
-        omega arith
+    high-short = omega (arith, high-small x bound)
 
     module _ (z w : ℕ) (e : z ≡ x / 2 ^ d .shift * d .reciprocal) (f : w ≡ z / 2 ^ 32 * d .p) where
       pub near-below : w ≤ x
