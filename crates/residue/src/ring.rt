@@ -31,14 +31,7 @@ fn step(p: u64, n: usize, t: &[u64; 16], c: u64, v: &[u64; 16], q: u64, w: &mut 
 }
 
 // u·v modulo T into w, which is 0, by Horner's rule in u; the words of w are not reduced.
-fn accumulate(
-    d: Barrett,
-    n: usize,
-    t: &[u64; 16],
-    u: &[u64; 16],
-    v: &[u64; 16],
-    w: &mut [u64; 16],
-)
+fn accumulate(d: Barrett, n: usize, t: &[u64; 16], u: &[u64; 16], v: &[u64; 16], w: &mut [u64; 16])
     requires { ⌜ Reduces d × (1 ≤ n) × (n ≤ 16) ⌝ }
     requires { ⌜ Holds (d .p) n (now t) × Holds (d .p) n (now u) × Holds (d .p) n (now v) ⌝ }
     requires { ⌜ now w ≡ replicate 16 0 ⌝ }
@@ -66,13 +59,7 @@ fn reduce(d: Barrett, n: usize, w: &mut [u64; 16])
 }
 
 // u·v modulo T: the words of the sum are reduced once, at the end.
-pub fn multiply(
-    d: Barrett,
-    n: usize,
-    t: &[u64; 16],
-    u: &[u64; 16],
-    v: &[u64; 16],
-) -> [u64; 16]
+pub fn multiply(d: Barrett, n: usize, t: &[u64; 16], u: &[u64; 16], v: &[u64; 16]) -> [u64; 16]
     requires { ⌜ Reduces d × (1 ≤ n) × (n ≤ 16) ⌝ }
     requires { ⌜ Holds (d .p) n (now t) × Holds (d .p) n (now u) × Holds (d .p) n (now v) ⌝ }
     ensures { λ w. ⌜ w ≡ padded (productOf (d .p) (take n (now (t .entry))) (take n (now (u .entry))) (take n (now (v .entry)))) ⌝ }
@@ -118,13 +105,7 @@ pub fn residue_of_x(p: u64, n: usize, t: &[u64; 16]) -> [u64; 16]
 }
 
 // u^e modulo T, from the power to half the exponent.
-fn power_by_halving(
-    d: Barrett,
-    n: usize,
-    t: &[u64; 16],
-    u: &[u64; 16],
-    e: u64,
-) -> [u64; 16]
+fn power_by_halving(d: Barrett, n: usize, t: &[u64; 16], u: &[u64; 16], e: u64) -> [u64; 16]
     requires { ⌜ Reduces d × (1 ≤ n) × (n ≤ 16) ⌝ }
     requires { ⌜ Holds (d .p) n (now t) × Holds (d .p) n (now u) ⌝ }
     ensures { λ w. ⌜ w ≡ padded (powerOf (d .p) (take n (now (t .entry))) (take n (now (u .entry))) e) ⌝ }
@@ -154,14 +135,7 @@ pub fn power(p: u64, n: usize, t: &[u64; 16], u: &[u64; 16], e: u64) -> [u64; 16
 }
 
 // X^e modulo T into w, which is 0, from X^(e / 2): its square, and X times that where e is odd. The words of w are not reduced.
-fn raise(
-    d: Barrett,
-    n: usize,
-    t: &[u64; 16],
-    half: &[u64; 16],
-    e: u64,
-    w: &mut [u64; 16],
-)
+fn raise(d: Barrett, n: usize, t: &[u64; 16], half: &[u64; 16], e: u64, w: &mut [u64; 16])
     requires { ⌜ Reduces d × (1 ≤ n) × (n ≤ 16) ⌝ }
     requires { ⌜ Holds (d .p) n (now t) × (now half ≡ padded (powerOf (d .p) (take n (now t)) (residueOfX (d .p) (take n (now t))) (e / 2))) ⌝ }
     requires { ⌜ now w ≡ replicate 16 0 ⌝ }
@@ -204,13 +178,7 @@ pub fn frobenius_of_x(p: u64, n: usize, t: &[u64; 16]) -> [u64; 16]
 }
 
 // u(S) modulo T, by Horner's rule from the top word of u.
-fn horner(
-    d: Barrett,
-    n: usize,
-    t: &[u64; 16],
-    s: &[u64; 16],
-    u: &[u64; 16],
-) -> [u64; 16]
+fn horner(d: Barrett, n: usize, t: &[u64; 16], s: &[u64; 16], u: &[u64; 16]) -> [u64; 16]
     requires { ⌜ Reduces d × (1 ≤ n) × (n ≤ 16) ⌝ }
     requires { ⌜ Holds (d .p) n (now t) × Holds (d .p) n (now s) × Holds (d .p) n (now u) ⌝ }
     ensures { λ w. ⌜ w ≡ padded (substituteOf (d .p) (take n (now (t .entry))) (take n (now (s .entry))) (take n (now (u .entry)))) ⌝ }
