@@ -44,7 +44,7 @@ pub fn add_multiple(
 // Row c times the inverse of its word in column c.
 pub fn scale(d: Barrett, n: usize, c: usize, inverse: u64, m: &mut [u64; 256], b: &mut [u64; 16])
     requires { ⌜ Reduces d ⌝ }
-    requires { ⌜ (n ≤ 16) × (c < n) × (inverse < d .p) × ((inverse * entry (now m) c c) % d .p ≡ 1) ⌝ }
+    requires { ⌜ (n ≤ 16) × (c < n) × ((inverse * entry (now m) c c) % d .p ≡ 1) × (inverse < d .p) ⌝ }
     requires { ⌜ Reduced (d .p) n c (now m) (now b) ⌝ }
     ensures { λ _. ⌜ RowStep (d .p) n c c 1 (now (m .entry)) (now (b .entry)) (now (m .exit)) (now (b .exit)) ⌝ }
 {

@@ -88,9 +88,6 @@ module _ (p n i j : ℕ) (m u : List ℕ) (small : p ≤ 2 ^ 20) (x : Square p n
   pub entry-small : getD m (16 * i + j) 0 < 2 ^ 32
   entry-small = omega (arith, x .below i j li lj)
 
-  pub word-small : getD u j 0 < 2 ^ 32
-  word-small = omega (arith, holds-word y j lj)
-
   module _ (r : ℕ) (e : r ≡ getD m (16 * i + j) 0 * getD u j 0) where
     product-small : r ≤ p * p
     product-small = rw e (Nat.mul-le-mul (omega (arith, x .below i j li lj)) (omega (arith, holds-word y j lj)))

@@ -4,7 +4,8 @@ use mathlib.Core.Path.{_≡_}
 use Prim.Native.Nat.{_-_, _*_, _≤_}
 use lib.ListN.{take}
 use Rattle.array.specs.Array.{rowProduct}
-use Rattle.matrix.proofs.MatrixLoops.{entry-small, word-small, sum-fits, sum-small, sum-few, row-none, row-next, row-done}
+use Rattle.residue.proofs.Step.{word-short}
+use Rattle.matrix.proofs.MatrixLoops.{entry-small, sum-fits, sum-small, sum-few, row-none, row-next, row-done}
 use Rattle.matrix.proofs.powers.dot.Statement.{statement}
 use Rattle.matrix.proofs.powers.dot.Tie as tie
 
@@ -36,7 +37,7 @@ element-copy-out-times-2 : tie.Need-element-copy-out-times-2 Inv-loop μ-loop
 element-copy-out-times-2 c = search needs
 
 times-requires : tie.Need-times-requires Inv-loop μ-loop
-times-requires c κs = (search entry-small, search word-small)
+times-requires c κs = (search entry-small, search word-short)
 
 add-sum : tie.Need-add-sum Inv-loop μ-loop
 add-sum c = search sum-fits
