@@ -86,36 +86,19 @@ module _ (d : Barrett) (m : Reduces d) where
           ∙ ap (λ y. (x - w + y) % d .p) (sym f)
           ∙ ap (λ y. y % d .p) (Nat.sub-add-cancel near-below)
 
-    module _ (y : ℕ) (l : y < 2 * d .p) (e : y % d .p ≡ x % d .p) where
-      pub opposite-mod : (2 * d .p - y + x) % d .p ≡ 0
-      opposite-mod =
-          let whole : 2 * d .p - y + y ≡ d .p * 2 = omega arith in
-          sym (Nat.add-mod-mod (2 * d .p - y) x (d .p))
-          ∙ ap (λ k. (2 * d .p - y + k) % d .p) (sym e)
-          ∙ Nat.add-mod-mod (2 * d .p - y) y (d .p)
-          ∙ ap (λ k. k % d .p) whole
-          ∙ Nat.mul-mod-right (d .p) 2
+-- a number y below 2·p that is x modulo p
+module _ (p x y : ℕ) (e : y % p ≡ x % p) (l : y < 2 * p) where
+  pub opposite-mod : (2 * p - y + x) % p ≡ 0
+  opposite-mod =
+      let whole : 2 * p - y + y ≡ p * 2 = omega arith in
+      sym (Nat.add-mod-mod (2 * p - y) x p)
+      ∙ ap (λ k. (2 * p - y + k) % p) (sym e)
+      ∙ Nat.add-mod-mod (2 * p - y) y p
+      ∙ ap (λ k. k % p) whole
+      ∙ Nat.mul-mod-right p 2
 
-      -- bit 32 of y + 2^32 − p is 0 for y < p, and else 1
-      module _ (w : ℕ) (f : w ≡ (y + 4294967296 - d .p) / 2 ^ 32 * d .p) where
-        once : (w ≤ y) × (y - w < d .p)
-        once = go (decLt y (d .p))
-          where
-            go : Dec (y < d .p) → (w ≤ y) × (y - w < d .p)
-            go (yes h) =
-                let bit : (y + 4294967296 - d .p) / 2 ^ 32 ≡ 0 = omega arith in
-                let none : w ≡ 0 = f ∙ ap (λ k. k * d .p) bit ∙ Nat.zero-mul (d .p) in
-                (omega arith, omega arith)
-            go (no h) =
-                let bit : (y + 4294967296 - d .p) / 2 ^ 32 ≡ 1 = omega (arith, m .small) in
-                let one : w ≡ d .p = f ∙ ap (λ k. k * d .p) bit ∙ Nat.one-mul (d .p) in
-                (omega arith, omega arith)
+  pub once-none : y < p → y ≡ x % p
+  once-none h = sym (Nat.mod-eq-of-lt h) ∙ e
 
-        pub once-below : w ≤ y
-        once-below = once .0
-
-        pub once-small : y - w < d .p
-        once-small = once .1
-
-        pub once-mod : y - w ≡ x % d .p
-        once-mod = remainder-unique y (y - w) ((y + 4294967296 - d .p) / 2 ^ 32) (d .p) (omega (arith, once)) once-small ∙ e
+  pub once-more : p ≤ y → y - p ≡ x % p
+  once-more h = remainder-unique y (y - p) 1 p (omega arith) (omega arith) ∙ e

@@ -60,12 +60,13 @@ impl Barrett {
         2 * self.p - self.near(x)
     }
 
-    // x modulo p. Bit 32 of y + 2^32 − p says whether p is to be subtracted once more; this has no branch.
+    // x modulo p.
     pub fn reduce(self, x: u64) -> u64
         requires { ⌜ Reduces self × (x ≤ 64 * (self .p * self .p)) ⌝ }
         ensures { λ y. ⌜ (y ≡ x % self .p) × (y < self .p) ⌝ }
     {
         let y = self.near(x);
-        y - times((y + 4294967296 - self.p) >> 32, self.p)
+        let p = self.p;
+        if y < p { y } else { y - p }
     }
 }

@@ -1,4 +1,4 @@
--- `word::power` meets its contract. Before each turn r·b^e = a^k; the measure is e, which halves.
+-- Before each turn r·b^e = a^k; the measure is e, which halves.
 use native.Mathlib.Omega.{arith}
 use borrow.Author.Needs.{needs}
 use mathlib.Core.Logic.{⊎-elim}
