@@ -14,8 +14,8 @@ use linear::system::Solution;
 use linear::system::solve;
 use matrix::powers::powers;
 use modular::word::sub;
+use residue::ring::frobenius_of_x;
 use residue::ring::power;
-use residue::ring::power_of_x;
 
 // Makes the matrix m the matrix m − z.
 fn minus(p: u64, n: usize, z: u64, m: &mut [u64; 256])
@@ -40,7 +40,7 @@ fn kernel(p: u64, n: usize, z: u64, t: &[u64; 16], m: &mut [u64; 256]) -> Soluti
     ensures { λ r. ⌜ Kernel p n (take n (now (t .entry))) z (r .regular) (r .vector) ⌝ }
     ensures { λ _. ⌜ length (now (m .exit)) ≡ 256 ⌝ }
 {
-    let x = power_of_x(p, n, t);
+    let x = frobenius_of_x(p, n, t);
     powers(p, n, t, &x, m);
     minus(p, n, z, m);
     solve(p, n, m, [0; 16])

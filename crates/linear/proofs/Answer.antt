@@ -1,8 +1,8 @@
 -- What the reduced system says of the one that elimination began with: the right side has become its solution, or a vector is taken to 0.
-use mathlib.Core.Path.{_≡_, refl, sym, ap, subst, _∙_}
+use mathlib.Core.Path.{_≡_, sym, ap, subst, _∙_}
 use mathlib.Core.Bool.{true, false}
 use mathlib.Core.List.{List}
-use Prim.Native.Nat.{ℕ, _+_, _*_, _/_, _%_, _≤_, _<_}
+use Prim.Native.Nat.{ℕ, _+_, _*_, _%_, _≤_, _<_}
 use native.Mathlib.Nat.{mod-eq-of-lt, zero-mod}
 use native.Mathlib.Omega.{arith}
 use lib.ListN.{length, getD, take}
@@ -15,7 +15,7 @@ use Rattle.array.specs.Array.{rowProduct, Holds, Square}
 use Rattle.array.proofs.Words.{words-length, words-same, zeros-words}
 use Rattle.array.proofs.Padded.{array-length, words-at, holds-word}
 use Rattle.linear.specs.System.{Solves, Regular, Singular, Outcome}
-use Rattle.linear.specs.Elimination.{Reduction, Identity, Reduced, SolvesTimes, Equivalent, Advanced, Pivot}
+use Rattle.linear.specs.Elimination.{Identity, Reduced, SolvesTimes, Equivalent, Advanced, Pivot}
 
 nothing : (x : ℕ) → 0 * x ≡ 0
 nothing x = omega arith
@@ -73,9 +73,6 @@ singular-back p n m b m' b' w E l S =
       solves = λ i h. E .back 0 w l (λ j g. S .solves j g ∙ ap (λ z. z % p) (sym (nothing (getD b' j 0)))) i h ∙ ap (λ z. z % p) (nothing (getD b i 0));
     }
 
-pub reduction-of : (p : ℕ) → 2 ≤ p → p ≤ 1048576 → Reduction p (4398046511104 / p)
-reduction-of p h l = record { positive = omega arith; small = l; reciprocal = refl }
-
 -- The walk over the columns: its start, a turn, and its two ends.
 pub walk-start : (p n : ℕ) (m b : List ℕ) → n ≤ 16 → Square p n m → Holds p n b → Advanced p n 0 m b m b
 walk-start p n m b small S held =
@@ -90,8 +87,10 @@ walk-start p n m b small S held =
       equivalent = equivalent-refl p n m b;
     }
 
-pub walk-turn : (p n c : ℕ) (m b m' b' x y : List ℕ) → Advanced p n c m b m' b' → Advanced p n (c + 1) m' b' x y → Advanced p n (c + 1) m b x y
-walk-turn p n c m b m' b' x y A B = record { reduced = B .reduced; equivalent = equivalent-trans (A .equivalent) (B .equivalent) }
+pub walk-turn : (p q n c : ℕ) (m b m' b' x y : List ℕ) → q ≡ p → Advanced p n c m b m' b' → Advanced q n (c + 1) m' b' x y → Advanced p n (c + 1) m b x y
+walk-turn p q n c m b m' b' x y e A B =
+    let C : Advanced p n (c + 1) m' b' x y = rw e at B in
+    record { reduced = C .reduced; equivalent = equivalent-trans (A .equivalent) (C .equivalent) }
 
 pub no-pivot : (n c r : ℕ) (m : List ℕ) → Pivot n c m r → r ≡ n → Pivot n c m n
 no-pivot n c r m P e = rw e at P

@@ -1,5 +1,4 @@
 -- Laws of row products, row operations and elimination.
-pub mod Reciprocal
 pub mod Congruence
 pub mod Combination
 pub mod Write

@@ -1,5 +1,4 @@
 -- Gauss–Jordan elimination, column by column. A row operation changes neither the solutions of M·v = b nor those of M·v = 0.
---   Reduction p u                0 < p ≤ 2^20, and u is the whole part of 2^42 / p, by which words are reduced modulo p
 --   Identity p n c m             the first c columns are those of the identity
 --   Reduced p n c m b            the same of the system M·v = b; its words are below p, and b is 0 past n
 --   SolvesTimes p n m t b v      M·v = t·b modulo p; the system itself is t = 1, and t = 0 is M·v = 0
@@ -10,14 +9,9 @@
 --   Pivot n c m r                r is the first row from row c on whose word in column c is not 0, or n where there is none
 use mathlib.Core.Path.{_≡_}
 use mathlib.Core.List.{List}
-use Prim.Native.Nat.{ℕ, _*_, _/_, _%_, _≤_, _<_}
+use Prim.Native.Nat.{ℕ, _*_, _%_, _≤_, _<_}
 use lib.ListN.{length, getD}
 use Rattle.array.specs.Array.{entry, rowProduct, Square}
-
-pub record Reduction (p u : ℕ) : Type 0 where
-  pub positive : 0 < p
-  pub small : p ≤ 1048576
-  pub reciprocal : u ≡ 4398046511104 / p
 
 pub record Identity (p n c : ℕ) (m : List ℕ) : Type 0 where
   pub square : Square p n m

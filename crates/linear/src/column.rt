@@ -3,9 +3,11 @@ ghost use mathlib.Core.Path.{_≡_};
 ghost use Prim.Native.Nat.{_+_, _≤_, _<_};
 ghost use Rattle.algebra.specs.Prime.{Prime};
 ghost use Rattle.array.specs.Array.{entry};
-ghost use Rattle.linear.specs.Elimination.{Reduction, Reduced, Advanced, Prepared, Pivot};
+ghost use Rattle.modular.specs.Barrett.{Reduces};
+ghost use Rattle.linear.specs.Elimination.{Reduced, Advanced, Prepared, Pivot};
 use crate::row::add_multiple;
 use crate::row::scale;
+use modular::barrett::Barrett;
 use modular::word::inverse;
 
 // The first row from row c on whose word in column c is not 0, or n.
@@ -24,55 +26,47 @@ pub fn find_pivot(n: usize, c: usize, m: &[u64; 256]) -> usize
 }
 
 // Adds row r, which has the pivot, to row c, unless it is row c. Before that the word of row c is 0 in column c, so it is not 0 afterwards.
-fn bring(p: u64, u: u64, n: usize, c: usize, r: usize, m: &mut [u64; 256], b: &mut [u64; 16])
-    requires { ⌜ Reduction p u ⌝ }
+fn bring(d: Barrett, n: usize, c: usize, r: usize, m: &mut [u64; 256], b: &mut [u64; 16])
+    requires { ⌜ Reduces d ⌝ }
     requires { ⌜ (n ≤ 16) × (c < n) × (r < n) ⌝ }
-    requires { ⌜ Reduced p n c (now m) (now b) ⌝ }
+    requires { ⌜ Reduced (d .p) n c (now m) (now b) ⌝ }
     requires { ⌜ Pivot n c (now m) r ⌝ }
-    ensures { λ _. ⌜ Prepared p n c (now (m .entry)) (now (b .entry)) (now (m .exit)) (now (b .exit)) ⌝ }
+    ensures { λ _. ⌜ Prepared (d .p) n c (now (m .entry)) (now (b .entry)) (now (m .exit)) (now (b .exit)) ⌝ }
 {
     if r != c {
-        add_multiple(p, u, n, c, c, 1, r, m, b);
+        add_multiple(d, n, c, c, 1, r, m, b);
     }
 }
 
 // Subtracts multiples of row c, which has 1 in column c, from all other rows, so that column c becomes that of the identity.
-fn clear(p: u64, u: u64, n: usize, c: usize, m: &mut [u64; 256], b: &mut [u64; 16])
-    requires { ⌜ Reduction p u ⌝ }
+fn clear(d: Barrett, n: usize, c: usize, m: &mut [u64; 256], b: &mut [u64; 16])
+    requires { ⌜ Reduces d ⌝ }
     requires { ⌜ (n ≤ 16) × (c < n) × (entry (now m) c c ≡ 1) ⌝ }
-    requires { ⌜ Reduced p n c (now m) (now b) ⌝ }
-    ensures { λ _. ⌜ Advanced p n (c + 1) (now (m .entry)) (now (b .entry)) (now (m .exit)) (now (b .exit)) ⌝ }
+    requires { ⌜ Reduced (d .p) n c (now m) (now b) ⌝ }
+    ensures { λ _. ⌜ Advanced (d .p) n (c + 1) (now (m .entry)) (now (b .entry)) (now (m .exit)) (now (b .exit)) ⌝ }
 {
     let mut i = 0;
     while i < n {
         if i != c {
-            let f = p - m[16 * i + c];
-            add_multiple(p, u, n, c, i, f, c, m, b);
+            let f = d.p - m[16 * i + c];
+            add_multiple(d, n, c, i, f, c, m, b);
         }
         i += 1;
     }
 }
 
 // Makes column c that of the identity, given the pivot's row r. The pivot's inverse is worked out once, before the columns.
-pub fn eliminate(
-    p: u64,
-    u: u64,
-    n: usize,
-    c: usize,
-    r: usize,
-    m: &mut [u64; 256],
-    b: &mut [u64; 16],
-)
-    requires { ⌜ Prime p ⌝ }
-    requires { ⌜ Reduction p u ⌝ }
+pub fn eliminate(d: Barrett, n: usize, c: usize, r: usize, m: &mut [u64; 256], b: &mut [u64; 16])
+    requires { ⌜ Prime (d .p) ⌝ }
+    requires { ⌜ Reduces d ⌝ }
     requires { ⌜ (n ≤ 16) × (c < n) × (r < n) ⌝ }
-    requires { ⌜ Reduced p n c (now m) (now b) ⌝ }
+    requires { ⌜ Reduced (d .p) n c (now m) (now b) ⌝ }
     requires { ⌜ Pivot n c (now m) r ⌝ }
-    ensures { λ _. ⌜ Advanced p n (c + 1) (now (m .entry)) (now (b .entry)) (now (m .exit)) (now (b .exit)) ⌝ }
+    ensures { λ _. ⌜ Advanced (d .p) n (c + 1) (now (m .entry)) (now (b .entry)) (now (m .exit)) (now (b .exit)) ⌝ }
 {
-    bring(p, u, n, c, r, m, b);
+    bring(d, n, c, r, m, b);
     let pivot = m[16 * c + c];
-    let a = inverse(p, pivot);
-    scale(p, u, n, c, a, m, b);
-    clear(p, u, n, c, m, b);
+    let a = inverse(d.p, pivot);
+    scale(d, n, c, a, m, b);
+    clear(d, n, c, m, b);
 }

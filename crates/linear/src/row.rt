@@ -2,32 +2,23 @@
 ghost use mathlib.Core.Path.{_≡_};
 ghost use Prim.Native.Nat.{_+_, _*_, _%_, _≤_, _<_};
 ghost use Rattle.array.specs.Array.{entry};
-ghost use Rattle.linear.specs.Elimination.{Reduction, Reduced, RowStep};
-
-// x modulo p, by the reciprocal u of p: x·u / 2^42 is the quotient or one less.
-fn reduce(p: u64, u: u64, x: u64) -> u64
-    requires { ⌜ Reduction p u ⌝ }
-    requires { ⌜ x ≤ p * p ⌝ }
-    ensures { λ r. ⌜ (r ≡ x % p) × (r < p) ⌝ }
-{
-    let q = x * u / 4398046511104;
-    let r = x - q * p;
-    if r < p { r } else { r - p }
-}
+ghost use Rattle.modular.specs.Barrett.{Reduces};
+ghost use Rattle.linear.specs.Elimination.{Reduced, RowStep};
+use modular::barrett::Barrett;
+use modular::barrett::times;
 
 // e + f·g modulo p.
-fn plus_product(p: u64, u: u64, e: u64, f: u64, g: u64) -> u64
-    requires { ⌜ Reduction p u ⌝ }
-    requires { ⌜ (e < p) × (f ≤ p) × (g < p) ⌝ }
-    ensures { λ r. ⌜ (r ≡ (e + f * g) % p) × (r < p) ⌝ }
+fn plus_product(d: Barrett, e: u64, f: u64, g: u64) -> u64
+    requires { ⌜ Reduces d ⌝ }
+    requires { ⌜ (e < d .p) × (f ≤ d .p) × (g < d .p) ⌝ }
+    ensures { λ r. ⌜ (r ≡ (e + f * g) % d .p) × (r < d .p) ⌝ }
 {
-    reduce(p, u, e + f * g)
+    d.reduce(e + times(f, g))
 }
 
 // Row x plus f times row y, with y another row from row c on.
 pub fn add_multiple(
-    p: u64,
-    u: u64,
+    d: Barrett,
     n: usize,
     c: usize,
     x: usize,
@@ -36,41 +27,32 @@ pub fn add_multiple(
     m: &mut [u64; 256],
     b: &mut [u64; 16],
 )
-    requires { ⌜ Reduction p u ⌝ }
-    requires { ⌜ (n ≤ 16) × (c < n) × (x < n) × (y < n) × (c ≤ y) × (f ≤ p) × (x ≡ y → ⊥) ⌝ }
-    requires { ⌜ Reduced p n c (now m) (now b) ⌝ }
-    ensures { λ _. ⌜ RowStep p n c x ((entry (now (m .entry)) x c + f * entry (now (m .entry)) y c) % p) (now (m .entry)) (now (b .entry)) (now (m .exit)) (now (b .exit)) ⌝ }
+    requires { ⌜ Reduces d ⌝ }
+    requires { ⌜ (n ≤ 16) × (c < n) × (x < n) × (y < n) × (c ≤ y) × (f ≤ d .p) × (x ≡ y → ⊥) ⌝ }
+    requires { ⌜ Reduced (d .p) n c (now m) (now b) ⌝ }
+    ensures { λ _. ⌜ RowStep (d .p) n c x ((entry (now (m .entry)) x c + f * entry (now (m .entry)) y c) % d .p) (now (m .entry)) (now (b .entry)) (now (m .exit)) (now (b .exit)) ⌝ }
 {
     let mut j = c;
     while j < n {
         let k = 16 * x + j;
-        m[k] = plus_product(p, u, m[k], f, m[16 * y + j]);
+        m[k] = plus_product(d, m[k], f, m[16 * y + j]);
         j += 1;
     }
-    b[x] = plus_product(p, u, b[x], f, b[y]);
+    b[x] = plus_product(d, b[x], f, b[y]);
 }
 
-// Row c times the inverse of its word in column c. Of the inverse nothing is required but that its product with that word is 1.
-pub fn scale(
-    p: u64,
-    u: u64,
-    n: usize,
-    c: usize,
-    inverse: u64,
-    m: &mut [u64; 256],
-    b: &mut [u64; 16],
-)
-    requires { ⌜ Reduction p u ⌝ }
-    requires { ⌜ (n ≤ 16) × (c < n) × ((inverse * entry (now m) c c) % p ≡ 1) ⌝ }
-    requires { ⌜ Reduced p n c (now m) (now b) ⌝ }
-    ensures { λ _. ⌜ RowStep p n c c 1 (now (m .entry)) (now (b .entry)) (now (m .exit)) (now (b .exit)) ⌝ }
+// Row c times the inverse of its word in column c.
+pub fn scale(d: Barrett, n: usize, c: usize, inverse: u64, m: &mut [u64; 256], b: &mut [u64; 16])
+    requires { ⌜ Reduces d ⌝ }
+    requires { ⌜ (n ≤ 16) × (c < n) × ((inverse * entry (now m) c c) % d .p ≡ 1) × (inverse < d .p) ⌝ }
+    requires { ⌜ Reduced (d .p) n c (now m) (now b) ⌝ }
+    ensures { λ _. ⌜ RowStep (d .p) n c c 1 (now (m .entry)) (now (b .entry)) (now (m .exit)) (now (b .exit)) ⌝ }
 {
-    let a = inverse % p;
     let mut j = c;
     while j < n {
         let k = 16 * c + j;
-        m[k] = plus_product(p, u, 0, a, m[k]);
+        m[k] = plus_product(d, 0, inverse, m[k]);
         j += 1;
     }
-    b[c] = plus_product(p, u, 0, a, b[c]);
+    b[c] = plus_product(d, 0, inverse, b[c]);
 }

@@ -8,6 +8,7 @@ ghost use Rattle.linear.specs.System.{Singular, Outcome};
 ghost use Rattle.linear.specs.Elimination.{Identity, Pivot};
 use crate::column::eliminate;
 use crate::column::find_pivot;
+use modular::barrett::Barrett;
 use modular::word::sub;
 
 // A regular system has its one solution in `vector`, a singular one a vector that is not 0 and that the matrix takes to 0; zeros after n words.
@@ -43,7 +44,7 @@ pub fn solve(p: u64, n: usize, m: &mut [u64; 256], b: [u64; 16]) -> Solution
     ensures { λ r. ⌜ Outcome p n (now (m .entry)) b (r .regular) (r .vector) ⌝ }
     ensures { λ _. ⌜ length (now (m .exit)) ≡ 256 ⌝ }
 {
-    let u = 4398046511104 / p;
+    let d = Barrett::new(p);
     let mut v = b;
     let mut c = 0;
     while c < n {
@@ -54,7 +55,7 @@ pub fn solve(p: u64, n: usize, m: &mut [u64; 256], b: [u64; 16]) -> Solution
                 vector: kernel_vector(p, n, c, m),
             };
         }
-        eliminate(p, u, n, c, r, m, &mut v);
+        eliminate(d, n, c, r, m, &mut v);
         c += 1;
     }
     Solution {

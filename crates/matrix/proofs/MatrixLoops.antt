@@ -88,21 +88,17 @@ module _ (p n i j : ℕ) (m u : List ℕ) (small : p ≤ 2 ^ 20) (x : Square p n
   pub entry-small : getD m (16 * i + j) 0 < 2 ^ 32
   entry-small = omega (arith, x .below i j li lj)
 
-  pub word-small : getD u j 0 < 2 ^ 32
-  word-small = omega (arith, holds-word y j lj)
-
   module _ (r : ℕ) (e : r ≡ getD m (16 * i + j) 0 * getD u j 0) where
-    product-small : r ≤ 2 ^ 40
-    product-small =
-        let a : getD m (16 * i + j) 0 ≤ 2 ^ 20 = omega (arith, x .below i j li lj) in
-        let b : getD u j 0 ≤ 2 ^ 20 = omega (arith, holds-word y j lj) in
-        rw e (Nat.mul-le-mul a b)
+    product-small : r ≤ p * p
+    product-small = rw e (Nat.mul-le-mul (omega (arith, x .below i j li lj)) (omega (arith, holds-word y j lj)))
 
-    pub sum-fits : (sum : ℕ) → n ≤ 16 → sum ≤ j * 2 ^ 40 → Fits w64 (sum + r)
-    sum-fits sum short h = omega (arith, product-small)
-
-    pub sum-small : (sum : ℕ) → sum ≤ j * 2 ^ 40 → sum + r ≤ (j + 1) * 2 ^ 40
+    pub sum-small : (sum : ℕ) → sum ≤ j * (p * p) → sum + r ≤ (j + 1) * (p * p)
     sum-small sum h = omega (arith, product-small)
+
+    pub sum-fits : (sum : ℕ) → n ≤ 16 → sum ≤ j * (p * p) → Fits w64 (sum + r)
+    sum-fits sum short h =
+        let few : j + 1 ≤ 16 = omega arith in
+        omega (arith, sum-small sum h, Nat.mul-le-mul few (Nat.mul-le-mul small small))
 
     pub row-next : (sum : ℕ) → n ≤ 16 → sum ≡ rowProduct m i 0 (take j u) → sum + r ≡ rowProduct m i 0 (take (j + 1) u)
     row-next sum short f =
@@ -115,20 +111,25 @@ pub row-none : (m u : List ℕ) (i : ℕ) → 0 ≡ rowProduct m i 0 (take 0 u)
 unfolding rowProduct
 row-none m u i = refl
 
-pub row-done : (p n i j sum : ℕ) (m u : List ℕ) → j ≤ n → n ≤ j → sum ≡ rowProduct m i 0 (take j u) → sum % p ≡ rowProduct m i 0 (take n u) % p
-row-done p n i j sum m u l l′ e =
+pub sum-few : (p n j sum : ℕ) → sum ≤ j * (p * p) → j ≤ n → n ≤ 16 → sum ≤ 64 * (p * p)
+sum-few p n j sum h l short =
+    let few : j ≤ 64 = omega arith in
+    omega (arith, Nat.mul-le-mul-right (p * p) few)
+
+pub row-done : (p n i j sum r : ℕ) (m u : List ℕ) → r ≡ sum % p → j ≤ n → n ≤ j → sum ≡ rowProduct m i 0 (take j u) → r ≡ rowProduct m i 0 (take n u) % p
+row-done p n i j sum r m u f l l′ e =
     let same : j ≡ n = omega arith in
-    ap (λ x. x % p) (e ∙ ap (λ k. rowProduct m i 0 (take k u)) same)
+    f ∙ ap (λ x. x % p) (e ∙ ap (λ k. rowProduct m i 0 (take k u)) same)
 
 -- the product of the matrix with u
 
 unfoldable pub productWord : ℕ → List ℕ → List ℕ → ℕ → ℕ
 productWord p m u i = rowProduct m i 0 u % p
 
-pub apply-turn : (p i r : ℕ) (m u w w′ : List ℕ) → r ≡ rowProduct m i 0 u % p → w′ ≡ painted w (productWord p m u) i
+pub apply-turn : (p q i r : ℕ) (m u w w′ : List ℕ) → q ≡ p → r ≡ rowProduct m i 0 u % q → w′ ≡ painted w (productWord p m u) i
     → set w′ i r ≡ painted w (productWord p m u) (i + 1)
 unfolding productWord
-apply-turn p i r m u w w′ f e = painted-turn (productWord p m u) i r w w′ f e
+apply-turn p q i r m u w w′ h f e = painted-turn (productWord p m u) i r w w′ (f ∙ ap (λ k. rowProduct m i 0 u % k) h) e
 
 pub apply-done : (p n i : ℕ) (m u w : List ℕ) → n ≤ 16 → i ≤ n → n ≤ i → w ≡ painted (replicate 16 0) (productWord p m u) i
     → w ≡ padded (matrixProduct p n m u)

@@ -4,11 +4,10 @@ ghost use mathlib.Core.Path.{_≡_};
 ghost use Prim.Native.Nat.{_%_, _^_, _≤_, _<_};
 ghost use lib.ListN.{length, take};
 ghost use Rattle.array.specs.Array.{padded, Holds, Square, rowProduct};
-ghost use Rattle.residue.specs.Delayed.{Reduction};
+ghost use Rattle.modular.specs.Barrett.{Reduces};
 ghost use Rattle.matrix.specs.Matrix.{Powers, Placed, matrixProduct, column as columnOf};
-use residue::delayed::multiplier;
-use residue::delayed::reciprocal;
-use residue::delayed::times;
+use modular::barrett::Barrett;
+use modular::barrett::times;
 use residue::ring::multiply;
 
 // Writes the first n words of u into column j.
@@ -24,17 +23,17 @@ fn place(n: usize, j: usize, u: &[u64; 16], m: &mut [u64; 256])
 }
 
 // The powers S, …, S^(n−1), by n − 2 products, into a matrix whose column 0 is 1.
-fn higher_powers(p: u64, k: u64, r: u64, n: usize, t: &[u64; 16], s: &[u64; 16], m: &mut [u64; 256])
-    requires { ⌜ Reduction p k r × (2 ≤ n) × (n ≤ 16) ⌝ }
-    requires { ⌜ Holds p n (now t) × Holds p n (now s) ⌝ }
-    requires { ⌜ Powers p 1 (take n (now t)) (take n (now s)) (now m) ⌝ }
-    ensures { λ _. ⌜ Powers p n (take n (now (t .entry))) (take n (now (s .entry))) (now (m .exit)) ⌝ }
+fn higher_powers(d: Barrett, n: usize, t: &[u64; 16], s: &[u64; 16], m: &mut [u64; 256])
+    requires { ⌜ Reduces d × (2 ≤ n) × (n ≤ 16) ⌝ }
+    requires { ⌜ Holds (d .p) n (now t) × Holds (d .p) n (now s) ⌝ }
+    requires { ⌜ Powers (d .p) 1 (take n (now t)) (take n (now s)) (now m) ⌝ }
+    ensures { λ _. ⌜ Powers (d .p) n (take n (now (t .entry))) (take n (now (s .entry))) (now (m .exit)) ⌝ }
 {
     let mut u = *s;
     place(n, 1, &u, m);
     let mut j = 2;
     while j < n {
-        u = multiply(p, k, r, n, t, s, &u);
+        u = multiply(d, n, t, s, &u);
         place(n, j, &u, m);
         j += 1;
     }
@@ -51,9 +50,7 @@ pub fn powers(p: u64, n: usize, t: &[u64; 16], s: &[u64; 16], m: &mut [u64; 256]
     one[0] = 1;
     place(n, 0, &one, m);
     if n > 1 {
-        let k = multiplier(p);
-        let r = reciprocal(p, k);
-        higher_powers(p, k, r, n, t, s, m);
+        higher_powers(Barrett::new(p), n, t, s, m);
     }
 }
 
@@ -71,11 +68,11 @@ pub fn column(n: usize, m: &[u64; 256], j: usize) -> [u64; 16]
     w
 }
 
-// The product of row i with u, modulo p: sixteen products fit a word, so that one reduction is enough.
-fn dot(p: u64, n: usize, m: &[u64; 256], u: &[u64; 16], i: usize) -> u64
-    requires { ⌜ (p ≤ 2 ^ 20) × (n ≤ 16) × (i < n) ⌝ }
-    requires { ⌜ Square p n (now m) × Holds p n (now u) ⌝ }
-    ensures { λ r. ⌜ r ≡ rowProduct (now (m .entry)) i 0 (take n (now (u .entry))) % p ⌝ }
+// The product of row i with u, modulo p: the sum of sixteen products is reduced once.
+fn dot(d: Barrett, n: usize, m: &[u64; 256], u: &[u64; 16], i: usize) -> u64
+    requires { ⌜ Reduces d × (n ≤ 16) × (i < n) ⌝ }
+    requires { ⌜ Square (d .p) n (now m) × Holds (d .p) n (now u) ⌝ }
+    ensures { λ r. ⌜ r ≡ rowProduct (now (m .entry)) i 0 (take n (now (u .entry))) % d .p ⌝ }
 {
     let mut sum = 0;
     let mut j = 0;
@@ -83,19 +80,20 @@ fn dot(p: u64, n: usize, m: &[u64; 256], u: &[u64; 16], i: usize) -> u64
         sum += times(m[16 * i + j], u[j]);
         j += 1;
     }
-    sum % p
+    d.reduce(sum)
 }
 
 // The product of a matrix with u, modulo p.
 pub fn apply(p: u64, n: usize, m: &[u64; 256], u: &[u64; 16]) -> [u64; 16]
-    requires { ⌜ (p ≤ 2 ^ 20) × (n ≤ 16) ⌝ }
+    requires { ⌜ (2 ≤ p) × (p ≤ 2 ^ 20) × (n ≤ 16) ⌝ }
     requires { ⌜ Square p n (now m) × Holds p n (now u) ⌝ }
     ensures { λ r. ⌜ r ≡ padded (matrixProduct p n (now (m .entry)) (take n (now (u .entry)))) ⌝ }
 {
+    let d = Barrett::new(p);
     let mut w = [0; 16];
     let mut i = 0;
     while i < n {
-        w[i] = dot(p, n, m, u, i);
+        w[i] = dot(d, n, m, u, i);
         i += 1;
     }
     w

@@ -10,7 +10,7 @@ use lib.Pow.{pow-add}
 use Rattle.algebra.proofs.Modulo.{mul-mod-mod, mod-mul-mod}
 
 -- r is n modulo p, since n = r + q·p and r < p
-remainder-unique : (n r q p : ℕ) → n ≡ r + q * p → r < p → r ≡ n % p
+pub remainder-unique : (n r q p : ℕ) → n ≡ r + q * p → r < p → r ≡ n % p
 remainder-unique n r q p e h = sym (ap (λ x. x % p) e ∙ add-mul-mod-self-right r q p ∙ mod-eq-of-lt h)
 
 pub add-below : (p a b : ℕ) → a + b < p → a + b ≡ (a + b) % p

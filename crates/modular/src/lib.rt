@@ -1,4 +1,7 @@
-// Words modulo p: the test for primes, sum, difference, product, power and inverse, and the test that every word of a list is below p.
-// Words are u64 with p up to 2^20, so that sixteen products fit one word.
+// Words modulo p. They are u64, and p is at most 2^20, so that sums of many products fit one word.
+//   prime     the test for primes
+//   word      sum, difference, product, power and inverse
+//   barrett   reduction of sums of products
+pub mod barrett;
 pub mod prime;
 pub mod word;

@@ -6,4 +6,3 @@ pub mod Product
 pub mod Substitute
 pub mod Power
 pub mod PowerOfX
-pub mod Reciprocal

@@ -1,7 +1,7 @@
 -- The product of two residues with delayed reduction: what holds before the first step, between steps and after the last.
 use mathlib.Core.Path.{_≡_, refl, sym, ap, subst, _∙_}
 use mathlib.Core.List.{List, [], _∷_}
-use Prim.Native.Nat.{ℕ, zero, suc, _+_, _-_, _*_, _^_, _≤_, _<_}
+use Prim.Native.Nat.{ℕ, zero, suc, _+_, _-_, _*_, _≤_, _<_}
 use native.Mathlib.Nat as Nat
 use native.Mathlib.Omega.{arith}
 use lib.ListN.{getD, take, drop, replicate, drop-of-length-le}
@@ -24,9 +24,9 @@ all-zeros : (b n : ℕ) → All (λ a. a ≤ b) (replicate n 0)
 all-zeros b zero = tt
 all-zeros b (suc n) = (omega arith, all-zeros b n)
 
-all-weaker : (j k : ℕ) (u : List ℕ) → j ≤ k → All (λ a. a ≤ j * 2 ^ 42) u → All (λ a. a ≤ k * 2 ^ 42) u
-all-weaker j k [] l h = tt
-all-weaker j k (a ∷ u) l h = (omega (arith, Nat.mul-le-mul-right (2 ^ 42) l, h .0), all-weaker j k u l (h .1))
+all-weaker : (b c : ℕ) (u : List ℕ) → b ≤ c → All (λ a. a ≤ b) u → All (λ a. a ≤ c) u
+all-weaker b c [] l h = tt
+all-weaker b c (a ∷ u) l h = (omega (arith, h .0), all-weaker b c u l (h .1))
 
 -- before the first step: no word of u, and zeros
 pub product-starts : (p n : ℕ) (t u v w : List ℕ) → n ≤ 16 → Holds p n t → Holds p n u → w ≡ replicate 16 0
@@ -38,7 +38,7 @@ product-starts p n t u v w h x y e =
       words = ap (reduced p) front ∙ reduced-zeros p n ∙ sym (constant-zero n)
           ∙ ap (λ k. constant k 0) (sym (words-length (x .words)))
           ∙ ap (λ l. product p (take n t) l (take n v)) (sym (drop-of-length-le (take n u) (Nat.le-of-eq (words-length (y .words)))));
-      small = subst (All (λ a. a ≤ (n - n) * 2 ^ 42)) (sym front) (all-zeros ((n - n) * 2 ^ 42) n);
+      small = subst (All (λ a. a ≤ (n - n) * (3 * (p * p)))) (sym front) (all-zeros ((n - n) * (3 * (p * p))) n);
       zeros = e ∙ padded-zeros n h ∙ ap padded (sym front);
     }
 
@@ -68,14 +68,15 @@ product-done p n i t u v w h d =
 -- what the next step and the reductions may assume of the words
 
 pub delayed-more : {p n j k : ℕ} {s w : List ℕ} → j ≤ k → Delayed p n j s w → Delayed p n k s w
-delayed-more {p} {n} {j} {k} {s} {w} l d = record { words = d .words; small = all-weaker j k (take n w) l (d .small); zeros = d .zeros }
+delayed-more {p} {n} {j} {k} {s} {w} l d =
+    record { words = d .words; small = all-weaker (j * (3 * (p * p))) (k * (3 * (p * p))) (take n w) (Nat.mul-le-mul-right (3 * (p * p)) l) (d .small); zeros = d .zeros }
 
 pub delayed-same : {p n k : ℕ} {s w : List ℕ} → Delayed p n k s w → Delayed p n k (reduced p (take n w)) w
 delayed-same d = record { words = refl; small = d .small; zeros = d .zeros }
 
 module _ (p n k : ℕ) (s w : List ℕ) (d : Delayed p n k s w) where
-  pub top-small : k ≤ 16 → 1 ≤ n → n ≤ 16 → getD w (n - 1) 0 ≤ 2 ^ 47
-  top-small h l m = omega (arith, delayed-word d m (n - 1) (omega arith), Nat.mul-le-mul-right (2 ^ 42) h)
+  pub top-small : k ≤ 16 → 1 ≤ n → n ≤ 16 → getD w (n - 1) 0 ≤ 64 * (p * p)
+  top-small h l m = omega (arith, delayed-word d m (n - 1) (omega arith), Nat.mul-le-mul-right (3 * (p * p)) h)
 
   pub step-given : k ≤ 16 → Delayed p n 16 (reduced p (take n w)) w
   step-given h = delayed-same (delayed-more h d)

@@ -2,7 +2,7 @@
 --   remainder p w k   word k of w modulo p
 use mathlib.Core.Path.{_≡_, refl, ap, ap₂, _∙_}
 use mathlib.Core.List.{List, [], _∷_}
-use Prim.Native.Nat.{ℕ, zero, suc, _+_, _%_, _^_, _≤_, _<_}
+use Prim.Native.Nat.{ℕ, zero, suc, _+_, _*_, _%_, _≤_, _<_}
 use native.Mathlib.Omega.{arith}
 use lib.ListN.{length, getD, take, set}
 use Rattle.array.specs.Array.{padded}
@@ -25,7 +25,7 @@ unfolding remainder
 reduce-turn p j a w w′ e f =
     ap₂ (λ l x. set l j x) e (f ∙ ap (λ l. getD l j 0 % p) e ∙ ap (λ x. x % p) (painted-above w (remainder p w) j j (omega arith))) ∙ painted-next w (remainder p w) j
 
-pub reduce-asks : (p n j : ℕ) (s w w′ : List ℕ) → Delayed p n 17 s w → n ≤ 16 → w′ ≡ painted w (remainder p w) j → j < n → getD w′ j 0 ≤ 2 ^ 47
+pub reduce-asks : (p n j : ℕ) (s w w′ : List ℕ) → Delayed p n 17 s w → n ≤ 16 → w′ ≡ painted w (remainder p w) j → j < n → getD w′ j 0 ≤ 64 * (p * p)
 reduce-asks p n j s w w′ d h e l =
     omega (arith, ap (λ l. getD l j 0) e ∙ painted-above w (remainder p w) j j (omega arith), delayed-word d h j l)
 

@@ -1,4 +1,4 @@
--- The loop of a step of Horner's rule with delayed reduction: no sum overflows, the bound of the entries grows by 2^42, and the array at the
+-- The loop of a step of Horner's rule with delayed reduction: no sum overflows, the bound of the entries grows by 3·p², and the array at the
 -- loop's end is that of the next step.
 use mathlib.Core.Path.{_≡_, sym, ap, subst, _∙_}
 use mathlib.Core.List.{List, [], _∷_}
@@ -28,13 +28,13 @@ all-at P [] h i l = absurd (omega arith)
 all-at P (a ∷ u) h zero l = h .0
 all-at P (a ∷ u) h (suc i) l = all-at P u (h .1) i (omega arith)
 
-pub delayed-word : {p n m : ℕ} {s xs : List ℕ} → Delayed p n m s xs → n ≤ 16 → (k : ℕ) → k < n → getD xs k 0 ≤ m * 2 ^ 42
+pub delayed-word : {p n m : ℕ} {s xs : List ℕ} → Delayed p n m s xs → n ≤ 16 → (k : ℕ) → k < n → getD xs k 0 ≤ m * (3 * (p * p))
 delayed-word {p} {n} {m} {s} {xs} d b k l =
-    subst (λ a. a ≤ m * 2 ^ 42) (getD-take n xs k 0 l)
-    (all-at (λ a. a ≤ m * 2 ^ 42) (take n xs) (d .small) k (rw (length-take-le n xs (array-fits n xs b (d .zeros))) l))
+    subst (λ a. a ≤ m * (3 * (p * p))) (getD-take n xs k 0 l)
+    (all-at (λ a. a ≤ m * (3 * (p * p))) (take n xs) (d .small) k (rw (length-take-le n xs (array-fits n xs b (d .zeros))) l))
 
 -- the word below entry k, before it is overwritten
-delayed-carry : {p n m : ℕ} {s xs : List ℕ} → Delayed p n m s xs → n ≤ 16 → (k : ℕ) → k ≤ n → getD (0 ∷ xs) k 0 ≤ m * 2 ^ 42
+delayed-carry : {p n m : ℕ} {s xs : List ℕ} → Delayed p n m s xs → n ≤ 16 → (k : ℕ) → k ≤ n → getD (0 ∷ xs) k 0 ≤ m * (3 * (p * p))
 delayed-carry d b zero l = omega arith
 delayed-carry d b (suc k) l = delayed-word d b k l
 
@@ -43,27 +43,22 @@ delayed-carry d b (suc k) l = delayed-word d b k l
 pub word-short : {p n : ℕ} {xs : List ℕ} → Holds p n xs → p ≤ 2 ^ 20 → (j : ℕ) → j < n → getD xs j 0 < 2 ^ 32
 word-short h b j l = omega (arith, holds-word h j l)
 
-module _ (p n j q c : ℕ) (t v : List ℕ) (small : p ≤ 2 ^ 20) (short : n ≤ 16) (bound : q ≤ 3 * 2 ^ 20) (x : Holds p n t) (z : Holds p n v) (lc : c < p) (lj : j < n) where
-  taken-small : q * getD t j 0 ≤ 3 * 2 ^ 40
-  taken-small =
-      let f : getD t j 0 ≤ 2 ^ 20 = omega (arith, holds-word x j lj) in
-      Nat.mul-le-mul bound f
+module _ (p n j q c : ℕ) (t v : List ℕ) (short : n ≤ 16) (bound : q ≤ 2 * p) (x : Holds p n t) (z : Holds p n v) (lc : c < p) (lj : j < n) where
+  taken-small : q * getD t j 0 ≤ 2 * p * p
+  taken-small = Nat.mul-le-mul bound (omega (arith, holds-word x j lj))
 
-  added-small : c * getD v j 0 ≤ 2 ^ 40
-  added-small =
-      let f : c ≤ 2 ^ 20 = omega arith in
-      let g : getD v j 0 ≤ 2 ^ 20 = omega (arith, holds-word z j lj) in
-      Nat.mul-le-mul f g
+  added-small : c * getD v j 0 ≤ p * p
+  added-small = Nat.mul-le-mul (omega arith) (omega (arith, holds-word z j lj))
 
-  entry-small : {k : ℕ} {a w : List ℕ} → Delayed p n k a w → getD (0 ∷ w) j 0 + q * getD t j 0 + c * getD v j 0 ≤ (k + 1) * 2 ^ 42
+  entry-small : {k : ℕ} {a w : List ℕ} → Delayed p n k a w → getD (0 ∷ w) j 0 + q * getD t j 0 + c * getD v j 0 ≤ (k + 1) * (3 * (p * p))
   entry-small d = omega (arith, taken-small, added-small, delayed-carry d short j (omega arith))
 
-  module _ (carry : ℕ) (w a : List ℕ) (d : Delayed p n 16 a w) (e : carry ≡ getD (0 ∷ w) j 0) where
+  module _ (carry : ℕ) (w a : List ℕ) (small : p ≤ 2 ^ 20) (d : Delayed p n 16 a w) (e : carry ≡ getD (0 ∷ w) j 0) where
     pub carry-fits : (x : ℕ) → x ≡ q * getD t j 0 → Fits w64 (carry + x)
-    carry-fits x f = omega (arith, entry-small d)
+    carry-fits x f = omega (arith, entry-small d, Nat.mul-le-mul small small)
 
     pub entry-fits : (x y : ℕ) → x ≡ q * getD t j 0 → y ≡ c * getD v j 0 → Fits w64 (carry + x + y)
-    entry-fits x y f g = omega (arith, entry-small d)
+    entry-fits x y f g = omega (arith, entry-small d, Nat.mul-le-mul small small)
 
 -- turn j writes entry j of the next step
 pub step-turn : (q c carry a b j : ℕ) (t v w w′ : List ℕ) → carry ≡ getD (0 ∷ w) j 0 → a ≡ q * getD t j 0 → b ≡ c * getD v j 0
@@ -74,10 +69,10 @@ pub carry-turn : (f : ℕ → ℕ) (j : ℕ) (w w′ : List ℕ) → w′ ≡ pa
 carry-turn f j w w′ e = rw (add-one j, e) (painted-above w f j j (omega arith))
 
 -- the loop's end
-pub step-done : (p n j q c : ℕ) (t v w w′ : List ℕ) → 2 ≤ p → p ≤ 2 ^ 20 → 1 ≤ n → n ≤ 16 → c < p → Holds p n t → Holds p n v
-    → q ≤ 3 * 2 ^ 20 → (q + getD w (n - 1) 0) % p ≡ 0 → j ≤ n → n ≤ j → w′ ≡ painted w (term q c 0 t v w) j
+pub step-done : (p n j q c : ℕ) (t v w w′ : List ℕ) → 2 ≤ p → 1 ≤ n → n ≤ 16 → c < p → Holds p n t → Holds p n v
+    → q ≤ 2 * p → (q + getD w (n - 1) 0) % p ≡ 0 → j ≤ n → n ≤ j → w′ ≡ painted w (term q c 0 t v w) j
     → Stepped p n (take n t) c (take n v) w w′
-step-done p n j q c t v w w′ big f pos g h x z b o l l′ e = record {
+step-done p n j q c t v w w′ big pos g h x z b o l l′ e = record {
   next = λ k s d.
       let entry : ℕ → ℕ = term q c 0 t v w in
       let same : j ≡ n = omega arith in
@@ -88,8 +83,8 @@ step-done p n j q c t v w w′ big f pos g h x z b o l l′ e = record {
             ap (reduced p) front
             ∙ step-mod p q c n t v w (omega arith) pos (array-fits n t g (x .zeros)) (array-fits n v g (z .zeros)) (array-fits n w g (d .zeros)) o
             ∙ ap (λ s. sum p (scale p c (take n v)) (timesX p (take n t) s)) (d .words);
-        small = subst (All (λ a. a ≤ (k + 1) * 2 ^ 42)) (sym front)
-            (all-table (λ a. a ≤ (k + 1) * 2 ^ 42) entry n (λ i m. unfold term in entry-small p n i q c t v f g b x z h m d));
+        small = subst (All (λ a. a ≤ (k + 1) * (3 * (p * p)))) (sym front)
+            (all-table (λ a. a ≤ (k + 1) * (3 * (p * p))) entry n (λ i m. unfold term in entry-small p n i q c t v g b x z h m d));
         zeros = whole ∙ ap padded (sym front);
       };
 }

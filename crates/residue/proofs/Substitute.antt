@@ -1,13 +1,11 @@
 -- Substitution by Horner's rule on arrays: w ↦ S·w + c, where adding the constant c changes the lowest word only.
 use mathlib.Core.Path.{_≡_, refl, sym, ap, ap₂, _∙_}
 use mathlib.Core.List.{List, [], _∷_}
-use Prim.Native.Nat.{ℕ, suc, _+_, _-_, _%_, _^_, _≤_, _<_}
+use Prim.Native.Nat.{ℕ, suc, _+_, _-_, _%_, _≤_, _<_}
 use native.Mathlib.Nat as Nat
 use native.Mathlib.Omega.{arith}
 use lib.ListN.{length, getD, take, drop, set, replicate, drop-of-length-le}
 use lib.Seq.{drop-cons, getD-take}
-use mir.Syntax.{w64}
-use mir.Val.{Fits}
 use Rattle.array.specs.Words.{Words, none, more}
 use Rattle.quotient.specs.Residue.{sum, constant, product, substitute}
 use Rattle.algebra.proofs.RingLaws.{mul-zero}
@@ -76,13 +74,14 @@ module _ (p n i : ℕ) (t s u w : List ℕ) (e : w ≡ padded (substitute p (tak
     next-words : Words p n (product p (take n t) (take n s) (take n w))
     next-words = product-words big (x .words) (take n s) (substitute-holds .words)
 
-    pub substitute-fits : p ≤ 2 ^ 20 → Fits w64 (getD r 0 0 + getD u (i - 1) 0)
-    substitute-fits b = omega (arith, holds-word (holds-is f next-words) 0 (omega arith), holds-word z (i - 1) (omega arith))
+    pub lowest-below : getD r 0 0 < p
+    lowest-below = holds-word (holds-is f next-words) 0 (omega arith)
 
-    pub substitute-turn : set r 0 ((getD r 0 0 + getD u (i - 1) 0) % p) ≡ padded (substitute p (take n t) (take n s) (drop (i - 1) (take n u)))
-    substitute-turn =
+    pub substitute-turn : (a : ℕ) → a ≡ (getD r 0 0 + getD u (i - 1) 0) % p → set r 0 a ≡ padded (substitute p (take n t) (take n s) (drop (i - 1) (take n u)))
+    substitute-turn a h =
         let c : ℕ = getD u (i - 1) 0 in
-        ap (λ l. set l 0 ((getD l 0 0 + c) % p)) f
+        ap (set r 0) h
+        ∙ ap (λ l. set l 0 ((getD l 0 0 + c) % p)) f
         ∙ constant-sum (omega arith) next-words c
         ∙ ap padded
         (ap₂ (λ k l. sum p (constant k c) (product p (take n t) (take n s) l)) (sym (words-length (x .words))) (front-is e rest-words)

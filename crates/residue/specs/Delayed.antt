@@ -1,21 +1,14 @@
 -- Words whose reduction modulo p is put off, inside the product of two residues.
---   Reduction p k r      2 ≤ p ≤ 2^20, p·k is the largest multiple of p up to 2^20, and r the whole part of 2^54 / (p·k), by which words are reduced
 --   reduced p u          each word of u modulo p
---   Delayed p n k s xs   the array xs holds n words that are s modulo p, each at most k·2^42, and zeros after them
---   Stepped p n t c v xs ys   the array ys holds X·xs + c·v modulo T, and the bound on its words has grown by 2^42
+--   Delayed p n k s xs   the array xs holds n words that are s modulo p, each at most 3·k·p², and zeros after them
+--   Stepped p n t c v xs ys   the array ys holds X·xs + c·v modulo T, and the bound on its words has grown by 3·p²
 use mathlib.Core.Path.{_≡_}
 use mathlib.Core.List.{List, [], _∷_}
-use Prim.Native.Nat.{ℕ, _+_, _*_, _/_, _%_, _^_, _≤_}
+use Prim.Native.Nat.{ℕ, _+_, _*_, _%_, _≤_}
 use lib.ListN.{take}
 use Rattle.algebra.specs.Lists.{All}
 use Rattle.quotient.specs.Residue.{sum, scale, timesX}
 use Rattle.array.specs.Array.{padded}
-
-pub record Reduction (p k r : ℕ) : Type 0 where
-  pub big : 2 ≤ p
-  pub small : p ≤ 2 ^ 20
-  pub multiplier : k ≡ 2 ^ 20 / p
-  pub reciprocal : r ≡ 2 ^ 54 / (p * k)
 
 unfoldable pub reduced : ℕ → List ℕ → List ℕ
 reduced p [] = []
@@ -23,7 +16,7 @@ reduced p (a ∷ u) = a % p ∷ reduced p u
 
 pub record Delayed (p n k : ℕ) (s xs : List ℕ) : Type 0 where
   pub words : reduced p (take n xs) ≡ s
-  pub small : All (λ a. a ≤ k * 2 ^ 42) (take n xs)
+  pub small : All (λ a. a ≤ k * (3 * (p * p))) (take n xs)
   pub zeros : xs ≡ padded (take n xs)
 
 pub record Stepped (p n : ℕ) (t : List ℕ) (c : ℕ) (v xs ys : List ℕ) : Type 0 where

@@ -1,3 +1,2 @@
--- What the contracts on residues cite beside the definitions of the crate quotient: the calls' answers, words whose reduction is put off, and
--- the matrix of the powers.
+-- What the contracts on residues cite beside the definitions of the crate quotient: words whose reduction is put off.
 pub mod Delayed

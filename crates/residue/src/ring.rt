@@ -1,23 +1,22 @@
-// The ring of residues modulo T, on arrays of 16 words: n words below p, and zeros after them. The functions that reduce words take the three
-// numbers that this needs, `Reduction p k r`; the calls for other modules work them out once.
-use crate::delayed::multiplier;
-use crate::delayed::opposite;
-use crate::delayed::reciprocal;
-use crate::delayed::remainder;
-use crate::delayed::times;
+// The ring of residues modulo T, on arrays of 16 words: n words below p, and zeros after them. The functions that reduce words take p with its
+// reciprocal; the calls for other crates work it out once.
+use modular::barrett::Barrett;
+use modular::barrett::times;
+use modular::word::add;
 ghost use mathlib.Core.Path.{_≡_};
 ghost use Prim.Native.Nat.{_+_, _-_, _*_, _/_, _%_, _^_, _≤_, _<_};
 ghost use lib.ListN.{getD, take, replicate};
 ghost use Rattle.quotient.specs.Residue.{constant, product as productOf, power as powerOf, residueOfX, substitute as substituteOf};
 ghost use Rattle.array.specs.Array.{padded, Holds};
-ghost use Rattle.residue.specs.Delayed.{Reduction, reduced, Delayed, Stepped};
+ghost use Rattle.modular.specs.Barrett.{Reduces};
+ghost use Rattle.residue.specs.Delayed.{reduced, Delayed, Stepped};
 
 // One step of Horner's rule: w becomes X·w + c·v. Its top word goes out as q·t, where q is the opposite of the top word modulo p; no other
 // word is reduced.
 fn step(p: u64, n: usize, t: &[u64; 16], c: u64, v: &[u64; 16], q: u64, w: &mut [u64; 16])
     requires { ⌜ (2 ≤ p) × (p ≤ 2 ^ 20) × (1 ≤ n) × (n ≤ 16) × (c < p) ⌝ }
     requires { ⌜ Holds p n (now t) × Holds p n (now v) ⌝ }
-    requires { ⌜ (q ≤ 3 * 2 ^ 20) × ((q + getD (now w) (n - 1) 0) % p ≡ 0) ⌝ }
+    requires { ⌜ (q ≤ 2 * p) × ((q + getD (now w) (n - 1) 0) % p ≡ 0) ⌝ }
     requires { ⌜ Delayed p n 16 (reduced p (take n (now w))) (now w) ⌝ }
     ensures { λ _. ⌜ Stepped p n (take n (now (t .entry))) c (take n (now (v .entry))) (now (w .entry)) (now (w .exit)) ⌝ }
 {
@@ -32,59 +31,42 @@ fn step(p: u64, n: usize, t: &[u64; 16], c: u64, v: &[u64; 16], q: u64, w: &mut 
 }
 
 // u·v modulo T into w, which is 0, by Horner's rule in u; the words of w are not reduced.
-fn accumulate(
-    p: u64,
-    k: u64,
-    r: u64,
-    n: usize,
-    t: &[u64; 16],
-    u: &[u64; 16],
-    v: &[u64; 16],
-    w: &mut [u64; 16],
-)
-    requires { ⌜ Reduction p k r × (1 ≤ n) × (n ≤ 16) ⌝ }
-    requires { ⌜ Holds p n (now t) × Holds p n (now u) × Holds p n (now v) ⌝ }
+fn accumulate(d: Barrett, n: usize, t: &[u64; 16], u: &[u64; 16], v: &[u64; 16], w: &mut [u64; 16])
+    requires { ⌜ Reduces d × (1 ≤ n) × (n ≤ 16) ⌝ }
+    requires { ⌜ Holds (d .p) n (now t) × Holds (d .p) n (now u) × Holds (d .p) n (now v) ⌝ }
     requires { ⌜ now w ≡ replicate 16 0 ⌝ }
-    ensures { λ _. ⌜ Delayed p n n (productOf p (take n (now (t .entry))) (take n (now (u .entry))) (take n (now (v .entry)))) (now (w .exit)) ⌝ }
+    ensures { λ _. ⌜ Delayed (d .p) n n (productOf (d .p) (take n (now (t .entry))) (take n (now (u .entry))) (take n (now (v .entry)))) (now (w .exit)) ⌝ }
 {
     let mut i = n;
     while i > 0 {
         i -= 1;
-        let q = opposite(p, k, r, w[n - 1]);
-        step(p, n, t, u[i], v, q, w);
+        let q = d.opposite(w[n - 1]);
+        step(d.p, n, t, u[i], v, q, w);
     }
 }
 
 // Takes each word of w modulo p.
-fn reduce(p: u64, k: u64, r: u64, n: usize, w: &mut [u64; 16])
-    requires { ⌜ Reduction p k r × (n ≤ 16) ⌝ }
-    requires { ⌜ Delayed p n 17 (reduced p (take n (now w))) (now w) ⌝ }
-    ensures { λ _. ⌜ now (w .exit) ≡ padded (reduced p (take n (now (w .entry)))) ⌝ }
+fn reduce(d: Barrett, n: usize, w: &mut [u64; 16])
+    requires { ⌜ Reduces d × (n ≤ 16) ⌝ }
+    requires { ⌜ Delayed (d .p) n 17 (reduced (d .p) (take n (now w))) (now w) ⌝ }
+    ensures { λ _. ⌜ now (w .exit) ≡ padded (reduced (d .p) (take n (now (w .entry)))) ⌝ }
 {
     let mut j = 0;
     while j < n {
-        w[j] = remainder(p, k, r, w[j]);
+        w[j] = d.reduce(w[j]);
         j += 1;
     }
 }
 
 // u·v modulo T: the words of the sum are reduced once, at the end.
-pub fn multiply(
-    p: u64,
-    k: u64,
-    r: u64,
-    n: usize,
-    t: &[u64; 16],
-    u: &[u64; 16],
-    v: &[u64; 16],
-) -> [u64; 16]
-    requires { ⌜ Reduction p k r × (1 ≤ n) × (n ≤ 16) ⌝ }
-    requires { ⌜ Holds p n (now t) × Holds p n (now u) × Holds p n (now v) ⌝ }
-    ensures { λ w. ⌜ w ≡ padded (productOf p (take n (now (t .entry))) (take n (now (u .entry))) (take n (now (v .entry)))) ⌝ }
+pub fn multiply(d: Barrett, n: usize, t: &[u64; 16], u: &[u64; 16], v: &[u64; 16]) -> [u64; 16]
+    requires { ⌜ Reduces d × (1 ≤ n) × (n ≤ 16) ⌝ }
+    requires { ⌜ Holds (d .p) n (now t) × Holds (d .p) n (now u) × Holds (d .p) n (now v) ⌝ }
+    ensures { λ w. ⌜ w ≡ padded (productOf (d .p) (take n (now (t .entry))) (take n (now (u .entry))) (take n (now (v .entry)))) ⌝ }
 {
     let mut w = [0; 16];
-    accumulate(p, k, r, n, t, u, v, &mut w);
-    reduce(p, k, r, n, &mut w);
+    accumulate(d, n, t, u, v, &mut w);
+    reduce(d, n, &mut w);
     w
 }
 
@@ -94,9 +76,7 @@ pub fn product(p: u64, n: usize, t: &[u64; 16], u: &[u64; 16], v: &[u64; 16]) ->
     requires { ⌜ Holds p n (now t) × Holds p n (now u) × Holds p n (now v) ⌝ }
     ensures { λ r. ⌜ r ≡ padded (productOf p (take n (now (t .entry))) (take n (now (u .entry))) (take n (now (v .entry)))) ⌝ }
 {
-    let k = multiplier(p);
-    let r = reciprocal(p, k);
-    multiply(p, k, r, n, t, u, v)
+    multiply(Barrett::new(p), n, t, u, v)
 }
 
 // The constant 1.
@@ -125,18 +105,10 @@ pub fn residue_of_x(p: u64, n: usize, t: &[u64; 16]) -> [u64; 16]
 }
 
 // u^e modulo T, from the power to half the exponent.
-fn power_by_halving(
-    p: u64,
-    k: u64,
-    r: u64,
-    n: usize,
-    t: &[u64; 16],
-    u: &[u64; 16],
-    e: u64,
-) -> [u64; 16]
-    requires { ⌜ Reduction p k r × (1 ≤ n) × (n ≤ 16) ⌝ }
-    requires { ⌜ Holds p n (now t) × Holds p n (now u) ⌝ }
-    ensures { λ w. ⌜ w ≡ padded (powerOf p (take n (now (t .entry))) (take n (now (u .entry))) e) ⌝ }
+fn power_by_halving(d: Barrett, n: usize, t: &[u64; 16], u: &[u64; 16], e: u64) -> [u64; 16]
+    requires { ⌜ Reduces d × (1 ≤ n) × (n ≤ 16) ⌝ }
+    requires { ⌜ Holds (d .p) n (now t) × Holds (d .p) n (now u) ⌝ }
+    ensures { λ w. ⌜ w ≡ padded (powerOf (d .p) (take n (now (t .entry))) (take n (now (u .entry))) e) ⌝ }
 {
     if e == 0 {
         return one(n);
@@ -144,12 +116,12 @@ fn power_by_halving(
     if e == 1 {
         return *u;
     }
-    let half = power_by_halving(p, k, r, n, t, u, e / 2);
-    let square = multiply(p, k, r, n, t, &half, &half);
+    let half = power_by_halving(d, n, t, u, e / 2);
+    let square = multiply(d, n, t, &half, &half);
     if e % 2 == 0 {
         square
     } else {
-        multiply(p, k, r, n, t, u, &square)
+        multiply(d, n, t, u, &square)
     }
 }
 
@@ -159,86 +131,65 @@ pub fn power(p: u64, n: usize, t: &[u64; 16], u: &[u64; 16], e: u64) -> [u64; 16
     requires { ⌜ Holds p n (now t) × Holds p n (now u) ⌝ }
     ensures { λ r. ⌜ r ≡ padded (powerOf p (take n (now (t .entry))) (take n (now (u .entry))) e) ⌝ }
 {
-    let k = multiplier(p);
-    let r = reciprocal(p, k);
-    power_by_halving(p, k, r, n, t, u, e)
+    power_by_halving(Barrett::new(p), n, t, u, e)
 }
 
 // X^e modulo T into w, which is 0, from X^(e / 2): its square, and X times that where e is odd. The words of w are not reduced.
-fn raise(
-    p: u64,
-    k: u64,
-    r: u64,
-    n: usize,
-    t: &[u64; 16],
-    half: &[u64; 16],
-    e: u64,
-    w: &mut [u64; 16],
-)
-    requires { ⌜ Reduction p k r × (1 ≤ n) × (n ≤ 16) ⌝ }
-    requires { ⌜ Holds p n (now t) × (now half ≡ padded (powerOf p (take n (now t)) (residueOfX p (take n (now t))) (e / 2))) ⌝ }
+fn raise(d: Barrett, n: usize, t: &[u64; 16], half: &[u64; 16], e: u64, w: &mut [u64; 16])
+    requires { ⌜ Reduces d × (1 ≤ n) × (n ≤ 16) ⌝ }
+    requires { ⌜ Holds (d .p) n (now t) × (now half ≡ padded (powerOf (d .p) (take n (now t)) (residueOfX (d .p) (take n (now t))) (e / 2))) ⌝ }
     requires { ⌜ now w ≡ replicate 16 0 ⌝ }
-    ensures { λ _. ⌜ Delayed p n 17 (powerOf p (take n (now (t .entry))) (residueOfX p (take n (now (t .entry)))) e) (now (w .exit)) ⌝ }
+    ensures { λ _. ⌜ Delayed (d .p) n 17 (powerOf (d .p) (take n (now (t .entry))) (residueOfX (d .p) (take n (now (t .entry)))) e) (now (w .exit)) ⌝ }
 {
-    accumulate(p, k, r, n, t, half, half, w);
+    accumulate(d, n, t, half, half, w);
     if e % 2 == 0 {
         return;
     }
-    let q = opposite(p, k, r, w[n - 1]);
-    step(p, n, t, 0, half, q, w);
+    let q = d.opposite(w[n - 1]);
+    step(d.p, n, t, 0, half, q, w);
 }
 
 // X^e modulo T into w, which is 0. An exponent below n needs no product.
-fn power_of_x_by_halving(p: u64, k: u64, r: u64, n: usize, t: &[u64; 16], e: u64, w: &mut [u64; 16])
-    requires { ⌜ Reduction p k r × (1 ≤ n) × (n ≤ 16) ⌝ }
-    requires { ⌜ Holds p n (now t) ⌝ }
+fn power_of_x_by_halving(d: Barrett, n: usize, t: &[u64; 16], e: u64, w: &mut [u64; 16])
+    requires { ⌜ Reduces d × (1 ≤ n) × (n ≤ 16) ⌝ }
+    requires { ⌜ Holds (d .p) n (now t) ⌝ }
     requires { ⌜ now w ≡ replicate 16 0 ⌝ }
-    ensures { λ _. ⌜ now (w .exit) ≡ padded (powerOf p (take n (now (t .entry))) (residueOfX p (take n (now (t .entry)))) e) ⌝ }
+    ensures { λ _. ⌜ now (w .exit) ≡ padded (powerOf (d .p) (take n (now (t .entry))) (residueOfX (d .p) (take n (now (t .entry)))) e) ⌝ }
 {
     if e < n as u64 {
         w[e as usize] = 1;
         return;
     }
     let mut half = [0; 16];
-    power_of_x_by_halving(p, k, r, n, t, e / 2, &mut half);
-    raise(p, k, r, n, t, &half, e, w);
-    reduce(p, k, r, n, w);
+    power_of_x_by_halving(d, n, t, e / 2, &mut half);
+    raise(d, n, t, &half, e, w);
+    reduce(d, n, w);
 }
 
 // X^p modulo T.
-pub fn power_of_x(p: u64, n: usize, t: &[u64; 16]) -> [u64; 16]
+pub fn frobenius_of_x(p: u64, n: usize, t: &[u64; 16]) -> [u64; 16]
     requires { ⌜ (2 ≤ p) × (p ≤ 2 ^ 20) × (1 ≤ n) × (n ≤ 16) ⌝ }
     requires { ⌜ Holds p n (now t) ⌝ }
     ensures { λ r. ⌜ r ≡ padded (powerOf p (take n (now (t .entry))) (residueOfX p (take n (now (t .entry)))) p) ⌝ }
 {
-    let k = multiplier(p);
-    let r = reciprocal(p, k);
     let mut w = [0; 16];
-    power_of_x_by_halving(p, k, r, n, t, p, &mut w);
+    power_of_x_by_halving(Barrett::new(p), n, t, p, &mut w);
     w
 }
 
 // u(S) modulo T, by Horner's rule from the top word of u.
-fn horner(
-    p: u64,
-    k: u64,
-    r: u64,
-    n: usize,
-    t: &[u64; 16],
-    s: &[u64; 16],
-    u: &[u64; 16],
-) -> [u64; 16]
-    requires { ⌜ Reduction p k r × (1 ≤ n) × (n ≤ 16) ⌝ }
-    requires { ⌜ Holds p n (now t) × Holds p n (now s) × Holds p n (now u) ⌝ }
-    ensures { λ w. ⌜ w ≡ padded (substituteOf p (take n (now (t .entry))) (take n (now (s .entry))) (take n (now (u .entry)))) ⌝ }
+fn horner(d: Barrett, n: usize, t: &[u64; 16], s: &[u64; 16], u: &[u64; 16]) -> [u64; 16]
+    requires { ⌜ Reduces d × (1 ≤ n) × (n ≤ 16) ⌝ }
+    requires { ⌜ Holds (d .p) n (now t) × Holds (d .p) n (now s) × Holds (d .p) n (now u) ⌝ }
+    ensures { λ w. ⌜ w ≡ padded (substituteOf (d .p) (take n (now (t .entry))) (take n (now (s .entry))) (take n (now (u .entry)))) ⌝ }
 {
     let mut w = [0; 16];
     w[0] = u[n - 1];
     let mut i = n - 1;
     while i > 0 {
         i -= 1;
-        w = multiply(p, k, r, n, t, s, &w);
-        w[0] = (w[0] + u[i]) % p;
+        w = multiply(d, n, t, s, &w);
+        w[0] = add(d.p, w[0], u[i]);
     }
     w
 }
@@ -249,7 +200,5 @@ pub fn substitute(p: u64, n: usize, t: &[u64; 16], s: &[u64; 16], u: &[u64; 16])
     requires { ⌜ Holds p n (now t) × Holds p n (now s) × Holds p n (now u) ⌝ }
     ensures { λ r. ⌜ r ≡ padded (substituteOf p (take n (now (t .entry))) (take n (now (s .entry))) (take n (now (u .entry)))) ⌝ }
 {
-    let k = multiplier(p);
-    let r = reciprocal(p, k);
-    horner(p, k, r, n, t, s, u)
+    horner(Barrett::new(p), n, t, s, u)
 }

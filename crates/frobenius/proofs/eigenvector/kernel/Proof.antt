@@ -4,8 +4,8 @@ use Rattle.frobenius.proofs.eigenvector.FrobeniusSystem.{zero-holds, po
 use Rattle.frobenius.proofs.eigenvector.kernel.Statement.{statement}
 use Rattle.frobenius.proofs.eigenvector.kernel.Tie as tie
 
-power-of-x-requires : tie.Need-power-of-x-requires
-power-of-x-requires c κs = search needs
+frobenius-of-x-requires : tie.Need-frobenius-of-x-requires
+frobenius-of-x-requires c κs = search needs
 
 powers-requires : tie.Need-powers-requires
 powers-requires c κs = (search needs, ((search needs, search power-x-holds), search needs))
@@ -23,7 +23,7 @@ pub kernel-spec : {M : Type 1} → statement M
 kernel-spec =
     tie.close
     (tie.spec
-    power-of-x-requires
+    frobenius-of-x-requires
     powers-requires
     minus-requires
     solve-requires

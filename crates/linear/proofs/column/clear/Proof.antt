@@ -8,10 +8,10 @@ use Rattle.linear.proofs.column.clear.Statement.{statement}
 use Rattle.linear.proofs.column.clear.Tie as tie
 
 abbrev Inv-loop : tie.InvT-loop
-Inv-loop p u n c m₀ b₀ i₀ m b i = Clearing p n c i m₀ b₀ m b
+Inv-loop d n c m₀ b₀ i₀ m b i = Clearing (d .p) n c i m₀ b₀ m b
 
 abbrev μ-loop : tie.MeasureT-loop
-μ-loop p u n c m₀ b₀ i₀ m b i = n - i
+μ-loop d n c m₀ b₀ i₀ m b i = n - i
 
 loop-holds : tie.Need-loop-holds Inv-loop μ-loop
 loop-holds c = search clear-start

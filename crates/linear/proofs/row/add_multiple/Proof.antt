@@ -8,10 +8,10 @@ use Rattle.linear.proofs.row.add_multiple.Statement.{statement}
 use Rattle.linear.proofs.row.add_multiple.Tie as tie
 
 abbrev Inv-loop : tie.InvT-loop
-Inv-loop p u n c x f y m₀ b j₀ m j = (j ≤ n) × Written (added p f m₀ x y) x c j m₀ m
+Inv-loop d n c x f y m₀ b j₀ m j = (j ≤ n) × Written (added (d .p) f m₀ x y) x c j m₀ m
 
 abbrev μ-loop : tie.MeasureT-loop
-μ-loop p u n c x f y m₀ b j₀ m j = n - j
+μ-loop d n c x f y m₀ b j₀ m j = n - j
 
 loop-holds : tie.Need-loop-holds Inv-loop μ-loop
 loop-holds c = (search needs, search written-start)

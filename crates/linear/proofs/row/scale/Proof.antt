@@ -3,18 +3,15 @@ use borrow.Author.Needs.{needs}
 use Prim.Native.Nat.{_-_, _≤_}
 use Rattle.linear.proofs.Write.{Written, written-start}
 use Rattle.linear.proofs.RowStep.{scaled}
-use Rattle.linear.proofs.RowLoop.{scaled-turn, scaled-end, next-below, right-below, remainder-small}
+use Rattle.linear.proofs.RowLoop.{scaled-turn, scaled-end, next-below, right-below}
 use Rattle.linear.proofs.row.scale.Statement.{statement}
 use Rattle.linear.proofs.row.scale.Tie as tie
 
 abbrev Inv-loop : tie.InvT-loop
-Inv-loop p u n c inverse m₀ b a j₀ m j = (j ≤ n) × Written (scaled p a m₀ c) c c j m₀ m
+Inv-loop d n c inverse m₀ b j₀ m j = (j ≤ n) × Written (scaled (d .p) inverse m₀ c) c c j m₀ m
 
 abbrev μ-loop : tie.MeasureT-loop
-μ-loop p u n c inverse m₀ b a j₀ m j = n - j
-
-rem-a : tie.Need-rem-a Inv-loop μ-loop
-rem-a c = search needs
+μ-loop d n c inverse m₀ b j₀ m j = n - j
 
 loop-holds : tie.Need-loop-holds Inv-loop μ-loop
 loop-holds c = (search needs, search written-start)
@@ -32,7 +29,7 @@ element-copy-out-plus-product : tie.Need-element-copy-out-plus-product Inv-loop 
 element-copy-out-plus-product c = search needs
 
 plus-product-requires : tie.Need-plus-product-requires Inv-loop μ-loop
-plus-product-requires c κs = (search needs, (search needs, search remainder-small, search next-below))
+plus-product-requires c κs = (search needs, (search needs, search needs, search next-below))
 
 mul-m : tie.Need-mul-m Inv-loop μ-loop
 mul-m c = search needs
@@ -56,7 +53,7 @@ element-copy-out-plus-product-2 : tie.Need-element-copy-out-plus-product-2 Inv-l
 element-copy-out-plus-product-2 c = search needs
 
 plus-product-requires-2 : tie.Need-plus-product-requires-2 Inv-loop μ-loop
-plus-product-requires-2 c κs = (search needs, (search needs, search remainder-small, search right-below))
+plus-product-requires-2 c κs = (search needs, (search needs, search needs, search right-below))
 
 mul-b : tie.Need-mul-b Inv-loop μ-loop
 mul-b c = search needs
@@ -73,7 +70,6 @@ scale-spec =
     (tie.spec
     Inv-loop
     μ-loop
-    rem-a
     loop-holds
     mul-k
     add-k

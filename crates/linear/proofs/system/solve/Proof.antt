@@ -3,18 +3,18 @@ use borrow.Author.Needs.{needs}
 use native.Mathlib.Omega.{arith}
 use Prim.Native.Nat.{_-_, _≤_}
 use Rattle.linear.specs.Elimination.{Advanced}
-use Rattle.linear.proofs.Answer.{reduction-of, walk-start, walk-turn, no-pivot, outcome-singular, outcome-regular}
+use Rattle.linear.proofs.Answer.{walk-start, walk-turn, no-pivot, outcome-singular, outcome-regular}
 use Rattle.linear.proofs.system.solve.Statement.{statement}
 use Rattle.linear.proofs.system.solve.Tie as tie
 
 abbrev Inv-loop : tie.InvT-loop
-Inv-loop p n m₀ u v₀ c₀ m v c = (c ≤ n) × Advanced p n c m₀ v₀ m v
+Inv-loop p n m₀ d v₀ c₀ m v c = (c ≤ n) × Advanced p n c m₀ v₀ m v
 
 abbrev μ-loop : tie.MeasureT-loop
-μ-loop p n m₀ u v₀ c₀ m v c = n - c
+μ-loop p n m₀ d v₀ c₀ m v c = n - c
 
-div-u : tie.Need-div-u Inv-loop μ-loop
-div-u c = search needs
+new-requires : tie.Need-new-requires Inv-loop μ-loop
+new-requires c κs = search needs
 
 loop-holds : tie.Need-loop-holds Inv-loop μ-loop
 loop-holds c = (search needs, search walk-start)
@@ -30,7 +30,9 @@ returns c = (search outcome-singular, search needs)
 
 eliminate-requires : tie.Need-eliminate-requires Inv-loop μ-loop
 eliminate-requires c κs =
-    (c .before .before .before .before .before .before .before .pre .0, (search reduction-of, (omega arith, (search needs, search needs))))
+    let made = c .before .before .before .before .before .before .before in
+    let same = made .new .ensures .0 in
+    (rw same (made .before .pre .0), (search needs, (omega arith, (rw same (search needs), search needs))))
 
 add-c : tie.Need-add-c Inv-loop μ-loop
 add-c c = search needs
@@ -50,7 +52,7 @@ solve-spec =
     (tie.spec
     Inv-loop
     μ-loop
-    div-u
+    new-requires
     loop-holds
     find-pivot-requires
     kernel-vector-requires

@@ -1,4 +1,4 @@
--- `apply` meets its contract. Before turn i the first i words of the product are written.
+-- Before turn i the first i words of the product are written.
 use borrow.Author.Needs.{needs}
 use mathlib.Core.Path.{_≡_}
 use Prim.Native.Nat.{_-_, _≤_}
@@ -9,16 +9,19 @@ use Rattle.matrix.proofs.powers.apply.Statement.{statement}
 use Rattle.matrix.proofs.powers.apply.Tie as tie
 
 abbrev Inv-loop : tie.InvT-loop
-Inv-loop p n m u w₀ i₀ w i = (i ≤ n) × (w ≡ painted w₀ (productWord p m (take n u)) i)
+Inv-loop p n m u d w₀ i₀ w i = (i ≤ n) × (w ≡ painted w₀ (productWord p m (take n u)) i)
 
 abbrev μ-loop : tie.MeasureT-loop
-μ-loop p n m u w₀ i₀ w i = n - i
+μ-loop p n m u d w₀ i₀ w i = n - i
+
+new-requires : tie.Need-new-requires Inv-loop μ-loop
+new-requires c κs = search needs
 
 loop-holds : tie.Need-loop-holds Inv-loop μ-loop
 loop-holds c = (search needs, search painted-none)
 
 dot-requires : tie.Need-dot-requires Inv-loop μ-loop
-dot-requires c κs = search needs
+dot-requires c κs = (search needs, rw (c .before .before .new .ensures .0) (search needs))
 
 mul-w : tie.Need-mul-w Inv-loop μ-loop
 mul-w c = search needs
@@ -44,6 +47,7 @@ apply-spec =
     (tie.spec
     Inv-loop
     μ-loop
+    new-requires
     loop-holds
     dot-requires
     mul-w

@@ -1,4 +1,4 @@
--- `column` meets its contract. Before turn i the first i words of the column are copied.
+-- Before turn i the first i words of the column are copied.
 use borrow.Author.Needs.{needs}
 use mathlib.Core.Path.{_≡_}
 use Prim.Native.Nat.{_-_, _≤_}

@@ -1,19 +1,19 @@
--- `dot` meets its contract. Before turn j the sum has the first j products, each at most 2^40.
+-- Before turn j the sum has the first j products, each at most p².
 use borrow.Author.Needs.{needs}
 use mathlib.Core.Path.{_≡_}
-use Prim.Native.Nat.{_-_, _*_, _^_, _≤_}
+use Prim.Native.Nat.{_-_, _*_, _≤_}
 use lib.ListN.{take}
 use Rattle.array.specs.Array.{rowProduct}
-use Rattle.array.proofs.Padded.{holds-positive}
-use Rattle.matrix.proofs.MatrixLoops.{entry-small, word-small, sum-fits, sum-small, row-none, row-next, row-done}
+use Rattle.residue.proofs.Step.{word-short}
+use Rattle.matrix.proofs.MatrixLoops.{entry-small, sum-fits, sum-small, sum-few, row-none, row-next, row-done}
 use Rattle.matrix.proofs.powers.dot.Statement.{statement}
 use Rattle.matrix.proofs.powers.dot.Tie as tie
 
 abbrev Inv-loop : tie.InvT-loop
-Inv-loop p n m u i sum₀ j₀ sum j = (j ≤ n) × (sum ≡ rowProduct m i 0 (take j u)) × (sum ≤ j * 2 ^ 40)
+Inv-loop d n m u i sum₀ j₀ sum j = (j ≤ n) × (sum ≡ rowProduct m i 0 (take j u)) × (sum ≤ j * (d .p * d .p))
 
 abbrev μ-loop : tie.MeasureT-loop
-μ-loop p n m u i sum₀ j₀ sum j = n - j
+μ-loop d n m u i sum₀ j₀ sum j = n - j
 
 loop-holds : tie.Need-loop-holds Inv-loop μ-loop
 loop-holds c = (search needs, search row-none, search needs)
@@ -37,7 +37,7 @@ element-copy-out-times-2 : tie.Need-element-copy-out-times-2 Inv-loop μ-loop
 element-copy-out-times-2 c = search needs
 
 times-requires : tie.Need-times-requires Inv-loop μ-loop
-times-requires c κs = (search entry-small, search word-small)
+times-requires c κs = (search entry-small, search word-short)
 
 add-sum : tie.Need-add-sum Inv-loop μ-loop
 add-sum c = search sum-fits
@@ -51,8 +51,8 @@ loop-less c = search needs
 loop-again : tie.Need-loop-again Inv-loop μ-loop
 loop-again c = (search needs, search row-next, search sum-small)
 
-rem-result : tie.Need-rem-result Inv-loop μ-loop
-rem-result c = search holds-positive
+reduce-requires : tie.Need-reduce-requires Inv-loop μ-loop
+reduce-requires c κs = (search needs, search sum-few)
 
 returns : tie.Need-returns Inv-loop μ-loop
 returns c = search row-done
@@ -75,5 +75,5 @@ dot-spec =
     add-j
     loop-less
     loop-again
-    rem-result
+    reduce-requires
     returns)

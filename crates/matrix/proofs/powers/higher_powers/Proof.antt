@@ -1,4 +1,4 @@
--- `higher_powers` meets its contract. Before turn j the matrix has its first j columns, and u is the last of them.
+-- Before turn j the matrix has its first j columns, and u is the last of them.
 use borrow.Author.Needs.{needs}
 use mathlib.Core.Path.{_≡_}
 use Prim.Native.Nat.{_-_, _≤_}
@@ -13,11 +13,11 @@ use Rattle.matrix.proofs.powers.higher_powers.Statement.{statement}
 use Rattle.matrix.proofs.powers.higher_powers.Tie as tie
 
 abbrev Inv-loop : tie.InvT-loop
-Inv-loop p k r n t s m₀ u₀ j₀ m u j =
-    (2 ≤ j) × (j ≤ n) × (u ≡ padded (power p (take n t) (take n s) (j - 1))) × Powers p j (take n t) (take n s) m
+Inv-loop d n t s m₀ u₀ j₀ m u j =
+    (2 ≤ j) × (j ≤ n) × (u ≡ padded (power (d .p) (take n t) (take n s) (j - 1))) × Powers (d .p) j (take n t) (take n s) m
 
 abbrev μ-loop : tie.MeasureT-loop
-μ-loop p k r n t s m₀ u₀ j₀ m u j = n - j
+μ-loop d n t s m₀ u₀ j₀ m u j = n - j
 
 place-requires : tie.Need-place-requires Inv-loop μ-loop
 place-requires c κs = (search needs, search needs, search array-length, search needs)

@@ -1,4 +1,4 @@
--- `place` meets its contract. Before turn i the first i words are in their places.
+-- Before turn i the first i words are in their places.
 use borrow.Author.Needs.{needs}
 use Prim.Native.Nat.{_-_, _≤_}
 use Rattle.matrix.specs.Matrix.{Placed}

@@ -1,4 +1,4 @@
--- `powers` meets its contract: column 0 is 1, and there is no other, or the further ones follow.
+-- Column 0 is 1, and there is no other, or the further ones follow.
 use borrow.Author.Needs.{needs}
 use Rattle.matrix.proofs.PowersOf.{powers-one, powers-alone}
 use Rattle.matrix.proofs.powers.powers.Statement.{statement}
@@ -10,17 +10,14 @@ array-write-one c = search needs
 place-requires : tie.Need-place-requires
 place-requires c κs = search needs
 
-multiplier-requires : tie.Need-multiplier-requires
-multiplier-requires c κs = search needs
-
-reciprocal-requires : tie.Need-reciprocal-requires
-reciprocal-requires c κs = search needs
+new-requires : tie.Need-new-requires
+new-requires c κs = search needs
 
 higher-powers-requires : tie.Need-higher-powers-requires
-higher-powers-requires c κs = (search needs, (search needs, search powers-one))
+higher-powers-requires c κs = let same = c .before .new .ensures .0 in (search needs, (rw same (search needs), rw same (search powers-one)))
 
 returns : tie.Need-returns
-returns c = search needs
+returns c = rw (c .before .before .new .ensures .0) at (c .higher-powers .ensures)
 
 returns-2 : tie.Need-returns-2
 returns-2 c = search powers-alone
@@ -31,8 +28,7 @@ powers-spec =
     (tie.spec
     array-write-one
     place-requires
-    multiplier-requires
-    reciprocal-requires
+    new-requires
     higher-powers-requires
     returns
     returns-2)

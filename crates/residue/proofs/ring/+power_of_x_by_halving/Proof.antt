@@ -1,4 +1,4 @@
--- `power_of_x_by_halving` meets its contract. The measure is the exponent, which halves.
+-- Below X^n the power is a unit list, and any other comes from the power to half the exponent. The measure is the exponent.
 use borrow.Author.Needs.{needs}
 use borrow.Fn.Kinds.{In}
 use borrow.Fn.PlainCycle.{Measures, is, falls, and}
@@ -15,7 +15,7 @@ use Rattle.residue.proofs.ring.+power_of_x_by_halving.{statement}
 use Rattle.residue.proofs.ring.+power_of_x_by_halving.Tie.{close}
 
 abbrev μ-power : Measures 2 kinds.ps ℕ
-μ-power κs a = a .1 .1 .1 .1 .1 .0
+μ-power κs a = a .1 .1 .1 .0
 
 module _ (t : ℕ) where
   abbrev power-at : In 2 kinds.ps

@@ -1,4 +1,4 @@
--- `accumulate` meets its contract. Before the turn for word i − 1, the array holds the product of the words of u from i on, with reduction delayed.
+-- Before the turn for word i − 1, the array holds the product of the words of u from i on, with reduction delayed.
 use borrow.Author.Needs.{needs}
 use Prim.Native.Nat.{_-_, _≤_}
 use lib.ListN.{take, drop}
@@ -9,10 +9,10 @@ use Rattle.residue.proofs.ring.accumulate.Statement.{statement}
 use Rattle.residue.proofs.ring.accumulate.Tie as tie
 
 abbrev Inv-loop : tie.InvT-loop
-Inv-loop p k r n t u v w₀ i₀ w i = (i ≤ n) × (n - i ≤ 16) × Delayed p n (n - i) (product p (take n t) (drop i (take n u)) (take n v)) w
+Inv-loop d n t u v w₀ i₀ w i = (i ≤ n) × (n - i ≤ 16) × Delayed (d .p) n (n - i) (product (d .p) (take n t) (drop i (take n u)) (take n v)) w
 
 abbrev μ-loop : tie.MeasureT-loop
-μ-loop p k r n t u v w₀ i₀ w i = i
+μ-loop d n t u v w₀ i₀ w i = i
 
 loop-holds : tie.Need-loop-holds Inv-loop μ-loop
 loop-holds c = (search needs, search needs, search product-starts)

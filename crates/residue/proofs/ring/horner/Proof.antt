@@ -1,19 +1,20 @@
--- `horner` meets its contract. Before the turn for word i − 1, the array holds the value of the words of u from i on.
+-- Before the turn for word i − 1, the array holds the value of the words of u from i on.
 use borrow.Author.Needs.{needs}
 use mathlib.Core.Path.{_≡_}
 use Prim.Native.Nat.{_≤_}
 use lib.ListN.{take, drop}
 use Rattle.quotient.specs.Residue.{substitute}
 use Rattle.array.specs.Array.{padded}
-use Rattle.residue.proofs.Substitute.{substitute-starts, substitute-holds, substitute-fits, substitute-turn, substitute-done}
+use Rattle.residue.proofs.Product.{next-word}
+use Rattle.residue.proofs.Substitute.{substitute-starts, substitute-holds, lowest-below, substitute-turn, substitute-done}
 use Rattle.residue.proofs.ring.horner.Statement.{statement}
 use Rattle.residue.proofs.ring.horner.Tie as tie
 
 abbrev Inv-loop : tie.InvT-loop
-Inv-loop p k r n t s u w₀ i₀ w i = (i ≤ n) × (w ≡ padded (substitute p (take n t) (take n s) (drop i (take n u))))
+Inv-loop d n t s u w₀ i₀ w i = (i ≤ n) × (w ≡ padded (substitute (d .p) (take n t) (take n s) (drop i (take n u))))
 
 abbrev μ-loop : tie.MeasureT-loop
-μ-loop p k r n t s u w₀ i₀ w i = i
+μ-loop d n t s u w₀ i₀ w i = i
 
 sub-w : tie.Need-sub-w Inv-loop μ-loop
 sub-w c = search needs
@@ -39,20 +40,21 @@ sub-i-2 c = search needs
 multiply-requires : tie.Need-multiply-requires Inv-loop μ-loop
 multiply-requires c κs = (search needs, (search needs, search needs, search substitute-holds))
 
-array-read-w : tie.Need-array-read-w Inv-loop μ-loop
-array-read-w c = search needs
+array-read-add : tie.Need-array-read-add Inv-loop μ-loop
+array-read-add c = search needs
 
-mul-w-2 : tie.Need-mul-w-2 Inv-loop μ-loop
-mul-w-2 c = search needs
+mul-add : tie.Need-mul-add Inv-loop μ-loop
+mul-add c = search needs
 
-element-copy-out-w-2 : tie.Need-element-copy-out-w-2 Inv-loop μ-loop
-element-copy-out-w-2 c = search needs
+element-copy-out-add : tie.Need-element-copy-out-add Inv-loop μ-loop
+element-copy-out-add c = search needs
 
-add-w : tie.Need-add-w Inv-loop μ-loop
-add-w c = search substitute-fits
-
-rem-w : tie.Need-rem-w Inv-loop μ-loop
-rem-w c = search needs
+add-requires : tie.Need-add-requires Inv-loop μ-loop
+add-requires c κs =
+    let turn = c .before .before .before in
+    let loop = turn .before .loop in
+    let given = turn .before .before .before .pre in
+    (search needs, lowest-below _ _ _ _ _ _ _ (loop .inv .1) (given .0 .0 .big) (given .1 .0) (given .1 .1) (given .1 .2) _ (c .before .multiply .ensures) (turn .loop-test .taken) (loop .inv .0), search next-word)
 
 array-write-w-2 : tie.Need-array-write-w-2 Inv-loop μ-loop
 array-write-w-2 c = search needs
@@ -61,11 +63,7 @@ loop-less : tie.Need-loop-less Inv-loop μ-loop
 loop-less c = search needs
 
 loop-again : tie.Need-loop-again Inv-loop μ-loop
-loop-again c =
-    let turn = c .before .before .before in
-    let loop = turn .before .loop in
-    let given = turn .before .before .before .pre in
-    (search needs, substitute-turn _ _ _ _ _ _ _ (loop .inv .1) (given .0 .0 .big) (given .1 .0) (given .1 .1) (given .1 .2) _ (c .before .multiply .ensures) (turn .loop-test .taken) (loop .inv .0))
+loop-again c = (search needs, search substitute-turn)
 
 returns : tie.Need-returns Inv-loop μ-loop
 returns c = search substitute-done
@@ -84,11 +82,10 @@ horner-spec =
     loop-holds
     sub-i-2
     multiply-requires
-    array-read-w
-    mul-w-2
-    element-copy-out-w-2
-    add-w
-    rem-w
+    array-read-add
+    mul-add
+    element-copy-out-add
+    add-requires
     array-write-w-2
     loop-less
     loop-again

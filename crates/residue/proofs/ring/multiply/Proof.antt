@@ -1,4 +1,4 @@
--- `multiply` meets its contract.
+-- The product with delayed reduction, and its words reduced.
 use borrow.Author.Needs.{needs}
 use Rattle.residue.proofs.Product.{reduce-given, reduced-is}
 use Rattle.residue.proofs.ring.multiply.Statement.{statement}

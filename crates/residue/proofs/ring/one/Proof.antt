@@ -1,4 +1,4 @@
--- `one` meets its contract.
+-- The constant 1 is an array of zeros with 1 in its lowest word.
 use borrow.Author.Needs.{needs}
 use Rattle.residue.proofs.Power.{constant-array}
 use Rattle.residue.proofs.ring.one.Statement.{statement}

@@ -1,4 +1,4 @@
--- `reduce` meets its contract. Before turn j the first j words are reduced.
+-- Before turn j the first j words are reduced.
 use borrow.Author.Needs.{needs}
 use mathlib.Core.Path.{_≡_}
 use Prim.Native.Nat.{_-_, _≤_}
@@ -8,22 +8,22 @@ use Rattle.residue.proofs.ring.reduce.Statement.{statement}
 use Rattle.residue.proofs.ring.reduce.Tie as tie
 
 abbrev Inv-loop : tie.InvT-loop
-Inv-loop p k r n w₀ j₀ w j = (j ≤ n) × (w ≡ painted w₀ (remainder p w₀) j)
+Inv-loop d n w₀ j₀ w j = (j ≤ n) × (w ≡ painted w₀ (remainder (d .p) w₀) j)
 
 abbrev μ-loop : tie.MeasureT-loop
-μ-loop p k r n w₀ j₀ w j = n - j
+μ-loop d n w₀ j₀ w j = n - j
 
 loop-holds : tie.Need-loop-holds Inv-loop μ-loop
 loop-holds c = (search needs, search painted-none)
 
-mul-remainder : tie.Need-mul-remainder Inv-loop μ-loop
-mul-remainder c = search needs
+mul-reduce : tie.Need-mul-reduce Inv-loop μ-loop
+mul-reduce c = search needs
 
-element-copy-out-remainder : tie.Need-element-copy-out-remainder Inv-loop μ-loop
-element-copy-out-remainder c = search needs
+element-copy-out-reduce : tie.Need-element-copy-out-reduce Inv-loop μ-loop
+element-copy-out-reduce c = search needs
 
-remainder-requires : tie.Need-remainder-requires Inv-loop μ-loop
-remainder-requires c κs = (search needs, search reduce-asks)
+reduce-requires : tie.Need-reduce-requires Inv-loop μ-loop
+reduce-requires c κs = (search needs, search reduce-asks)
 
 mul-w : tie.Need-mul-w Inv-loop μ-loop
 mul-w c = search needs
@@ -50,9 +50,9 @@ reduce-spec =
     Inv-loop
     μ-loop
     loop-holds
-    mul-remainder
-    element-copy-out-remainder
-    remainder-requires
+    mul-reduce
+    element-copy-out-reduce
+    reduce-requires
     mul-w
     element-write-w
     add-j

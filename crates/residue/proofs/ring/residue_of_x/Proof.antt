@@ -1,4 +1,4 @@
--- `residue_of_x` meets its contract: for degree 1 the constant (p − 1)·t0, for a higher degree the second unit list.
+-- For degree 1 the constant (p − 1)·t0, for a higher degree the second unit list.
 use borrow.Author.Needs.{needs}
 use Rattle.residue.proofs.Power.{x-fits, x-linear, x-higher}
 use Rattle.residue.proofs.ring.residue_of_x.Statement.{statement}

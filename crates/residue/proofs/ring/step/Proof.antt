@@ -1,4 +1,4 @@
--- `step` meets its contract. Before turn j the first j entries are those of the next step, and `carry` is the word that the last turn overwrote.
+-- Before turn j the first j entries are those of the next step, and `carry` is the word that the last turn overwrote.
 use borrow.Author.Needs.{needs}
 use mathlib.Core.Path.{_≡_, refl}
 use mathlib.Core.List.{_∷_}

@@ -1,8 +1,8 @@
--- `times` meets its contract.
+-- The product of two numbers of 32 bits has 64.
 use borrow.Author.Needs.{needs}
-use Rattle.residue.proofs.Reciprocal.{times-fits}
-use Rattle.residue.proofs.delayed.times.Statement.{statement}
-use Rattle.residue.proofs.delayed.times.Tie as tie
+use Rattle.modular.proofs.Reciprocal.{times-fits}
+use Rattle.modular.proofs.barrett.times.Statement.{statement}
+use Rattle.modular.proofs.barrett.times.Tie as tie
 
 cast-result : tie.Need-cast-result
 cast-result c = search needs
