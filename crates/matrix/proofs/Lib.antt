@@ -1,4 +1,3 @@
--- matrix: PLACEHOLDER, say here what this crate has.
-pub mod MatrixLoops
-pub mod PowersOf
+-- The matrix whose columns are the powers of S is that of u ↦ u(S), and the loops that fill arrays.
+mod Filled
 pub mod PowerMatrix

@@ -7,8 +7,6 @@ use native.Mathlib.Nat as Nat
 use native.Mathlib.Omega.{arith}
 use lib.ListN.{length, getD, take, getD-replicate}
 use Rattle.algebra.specs.Lists.{range}
-use Rattle.algebra.specs.Ring as Ring
-use Rattle.algebra.proofs.RingLaws as RingLaws
 use Rattle.array.specs.Words.{Words}
 use Rattle.quotient.specs.Residue.{constant, power, substitute}
 use Rattle.quotient.specs.Theorem.{sumOfPowers}
@@ -19,7 +17,7 @@ use Rattle.array.specs.Array.{padded, Holds, entry, Square, rowProduct}
 use Rattle.matrix.specs.Matrix.{Powers, column, matrixProduct}
 use Rattle.array.proofs.Padded.{words-at}
 use Rattle.array.proofs.Painted.{table}
-use Rattle.matrix.proofs.MatrixLoops.{table-range}
+use Rattle.matrix.proofs.Filled.{table-range}
 
 module _ {p n : ℕ} {t s : List ℕ} (big : 2 ≤ p) (wt : Words p n t) (ws : Words p n s) where
   -- the word in row i of the sum of the powers from k on

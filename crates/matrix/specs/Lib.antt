@@ -1,2 +1,2 @@
--- matrix: PLACEHOLDER, say here what this crate has.
+-- What the contracts on matrices cite.
 pub mod Matrix

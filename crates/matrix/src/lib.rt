@@ -1,3 +1,5 @@
-// matrix: PLACEHOLDER, say here what this crate has.
-//   powers    the powers of a residue as a matrix, worked out once for many substitutions
+// The matrix of u ↦ u(S) on residues: its columns are the powers of S, worked out once for many substitutions.
+//   powers    the matrix, and its columns
+//   product   the product of a matrix with a residue
 pub mod powers;
+pub mod product;

@@ -1,13 +1,12 @@
 // The matrix of u ↦ u(S): its columns are the powers of S, so that u(S) is its product with u. One matrix serves any number of substitutions.
 // It is a flat array of 16 rows of 16 words, which the caller lends.
 ghost use mathlib.Core.Path.{_≡_};
-ghost use Prim.Native.Nat.{_%_, _^_, _≤_, _<_};
+ghost use Prim.Native.Nat.{_^_, _≤_, _<_};
 ghost use lib.ListN.{length, take};
-ghost use Rattle.array.specs.Array.{padded, Holds, Square, rowProduct};
+ghost use Rattle.array.specs.Array.{padded, Holds};
 ghost use Rattle.modular.specs.Barrett.{Reduces};
-ghost use Rattle.matrix.specs.Matrix.{Powers, Placed, matrixProduct, column as columnOf};
+ghost use Rattle.matrix.specs.Matrix.{Powers, Placed, column as columnOf};
 use modular::barrett::Barrett;
-use modular::barrett::times;
 use residue::ring::multiply;
 
 // Writes the first n words of u into column j.
@@ -63,37 +62,6 @@ pub fn column(n: usize, m: &[u64; 256], j: usize) -> [u64; 16]
     let mut i = 0;
     while i < n {
         w[i] = m[16 * i + j];
-        i += 1;
-    }
-    w
-}
-
-// The product of row i with u, modulo p: the sum of sixteen products is reduced once.
-fn dot(d: Barrett, n: usize, m: &[u64; 256], u: &[u64; 16], i: usize) -> u64
-    requires { ⌜ Reduces d × (n ≤ 16) × (i < n) ⌝ }
-    requires { ⌜ Square (d .p) n (now m) × Holds (d .p) n (now u) ⌝ }
-    ensures { λ r. ⌜ r ≡ rowProduct (now (m .entry)) i 0 (take n (now (u .entry))) % d .p ⌝ }
-{
-    let mut sum = 0;
-    let mut j = 0;
-    while j < n {
-        sum += times(m[16 * i + j], u[j]);
-        j += 1;
-    }
-    d.reduce(sum)
-}
-
-// The product of a matrix with u, modulo p.
-pub fn apply(p: u64, n: usize, m: &[u64; 256], u: &[u64; 16]) -> [u64; 16]
-    requires { ⌜ (2 ≤ p) × (p ≤ 2 ^ 20) × (n ≤ 16) ⌝ }
-    requires { ⌜ Square p n (now m) × Holds p n (now u) ⌝ }
-    ensures { λ r. ⌜ r ≡ padded (matrixProduct p n (now (m .entry)) (take n (now (u .entry)))) ⌝ }
-{
-    let d = Barrett::new(p);
-    let mut w = [0; 16];
-    let mut i = 0;
-    while i < n {
-        w[i] = dot(d, n, m, u, i);
         i += 1;
     }
     w

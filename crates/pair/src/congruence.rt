@@ -1,5 +1,5 @@
 // The congruences of a pair. Two of them, T1(S) = 0 and R(S) = X modulo T2, imply the other two, and one matrix of the powers of S serves both.
-use matrix::powers::apply;
+use matrix::product::apply;
 use matrix::powers::column;
 use matrix::powers::powers;
 use modular::word::add;

@@ -7,7 +7,7 @@ use crate::view::counts_as;
 use array::Word;
 use array::copy::load;
 use array::copy::store;
-use matrix::powers::apply;
+use matrix::product::apply;
 use matrix::powers::powers;
 ghost use mathlib.Core.Bool.{true};
 ghost use mathlib.Core.List.{[], _∷_};

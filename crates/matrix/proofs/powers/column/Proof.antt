@@ -3,7 +3,7 @@ use borrow.Author.Needs.{needs}
 use mathlib.Core.Path.{_≡_}
 use Prim.Native.Nat.{_-_, _≤_}
 use Rattle.array.proofs.Painted.{painted, painted-none}
-use Rattle.matrix.proofs.MatrixLoops.{columnWord, column-turn, column-done}
+use Rattle.matrix.proofs.powers.ColumnLoops.{columnWord, column-turn, column-done}
 use Rattle.matrix.proofs.powers.column.Statement.{statement}
 use Rattle.matrix.proofs.powers.column.Tie as tie
 

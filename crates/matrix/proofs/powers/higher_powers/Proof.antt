@@ -8,7 +8,7 @@ use Rattle.array.specs.Array.{padded}
 use Rattle.matrix.specs.Matrix.{Powers}
 use Rattle.array.proofs.Padded.{array-length}
 use Rattle.residue.proofs.Power.{power-holds}
-use Rattle.matrix.proofs.PowersOf.{last-first, powers-two, last-size, last-turn, powers-turn, powers-done}
+use Rattle.matrix.proofs.powers.Columns.{last-first, powers-two, last-size, last-turn, powers-turn, powers-done}
 use Rattle.matrix.proofs.powers.higher_powers.Statement.{statement}
 use Rattle.matrix.proofs.powers.higher_powers.Tie as tie
 

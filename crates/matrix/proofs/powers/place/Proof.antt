@@ -2,7 +2,7 @@
 use borrow.Author.Needs.{needs}
 use Prim.Native.Nat.{_-_, _≤_}
 use Rattle.matrix.specs.Matrix.{Placed}
-use Rattle.matrix.proofs.MatrixLoops.{place-starts, place-turn, place-done}
+use Rattle.matrix.proofs.powers.ColumnLoops.{place-starts, place-turn, place-done}
 use Rattle.matrix.proofs.powers.place.Statement.{statement}
 use Rattle.matrix.proofs.powers.place.Tie as tie
 

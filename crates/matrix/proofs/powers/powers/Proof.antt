@@ -1,6 +1,6 @@
 -- Column 0 is 1, and there is no other, or the further ones follow.
 use borrow.Author.Needs.{needs}
-use Rattle.matrix.proofs.PowersOf.{powers-one, powers-alone}
+use Rattle.matrix.proofs.powers.Columns.{powers-one, powers-alone}
 use Rattle.matrix.proofs.powers.powers.Statement.{statement}
 use Rattle.matrix.proofs.powers.powers.Tie as tie
 

@@ -4,9 +4,9 @@ use mathlib.Core.Path.{_≡_}
 use Prim.Native.Nat.{_-_, _≤_}
 use lib.ListN.{take}
 use Rattle.array.proofs.Painted.{painted, painted-none}
-use Rattle.matrix.proofs.MatrixLoops.{productWord, apply-turn, apply-done}
-use Rattle.matrix.proofs.powers.apply.Statement.{statement}
-use Rattle.matrix.proofs.powers.apply.Tie as tie
+use Rattle.matrix.proofs.product.ProductLoops.{productWord, apply-turn, apply-done}
+use Rattle.matrix.proofs.product.apply.Statement.{statement}
+use Rattle.matrix.proofs.product.apply.Tie as tie
 
 abbrev Inv-loop : tie.InvT-loop
 Inv-loop p n m u d w₀ i₀ w i = (i ≤ n) × (w ≡ painted w₀ (productWord p m (take n u)) i)

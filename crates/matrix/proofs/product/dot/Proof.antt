@@ -5,9 +5,9 @@ use Prim.Native.Nat.{_-_, _*_, _≤_}
 use lib.ListN.{take}
 use Rattle.array.specs.Array.{rowProduct}
 use Rattle.residue.proofs.Step.{word-short}
-use Rattle.matrix.proofs.MatrixLoops.{entry-small, sum-fits, sum-small, sum-few, row-none, row-next, row-done}
-use Rattle.matrix.proofs.powers.dot.Statement.{statement}
-use Rattle.matrix.proofs.powers.dot.Tie as tie
+use Rattle.matrix.proofs.product.ProductLoops.{entry-small, sum-fits, sum-small, sum-few, row-none, row-next, row-done}
+use Rattle.matrix.proofs.product.dot.Statement.{statement}
+use Rattle.matrix.proofs.product.dot.Tie as tie
 
 abbrev Inv-loop : tie.InvT-loop
 Inv-loop d n m u i sum₀ j₀ sum j = (j ≤ n) × (sum ≡ rowProduct m i 0 (take j u)) × (sum ≤ j * (d .p * d .p))
