@@ -1,9 +1,9 @@
 -- The laws of commutative rings and fields, of primes, of polynomials and of finite lists.
 pub mod RingLaws
 pub mod Modulo
-pub mod Normalise
+mod Normalise
 pub mod Euclid
-pub mod Binomial
+mod Binomial
 pub mod Frobenius
 pub mod Lists
 pub mod Counting

@@ -1,4 +1,4 @@
--- array: PLACEHOLDER, say here what this crate has.
+-- Laws of lists of words, of arrays that hold them, and of loops that fill an array.
 pub mod Words
 pub mod Painted
 pub mod Padded

@@ -12,11 +12,7 @@ mod Written
 mod Read
 pub mod Theorem
 mod Places
-mod Scans
 mod Entries
 mod Copied
 mod OneList
-mod ReadFaults
-mod WriteFaults
-mod WrittenBits
 mod Answers

@@ -1,5 +1,5 @@
 // The finder (document 01): the pair of Algorithm 2.1 for two models of one size.
 //   find        the public call `find`, with its refusals
 //   construct   the same on arrays of 16 words, for the crates above
-pub mod construct;
+mod construct;
 pub mod find;

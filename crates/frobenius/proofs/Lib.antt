@@ -1,2 +1,2 @@
--- frobenius: PLACEHOLDER, say here what this crate has.
+-- What the eigenvector decides; the laws of the loops stand beside their functions.
 pub mod KernelAnswer

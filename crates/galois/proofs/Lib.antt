@@ -1,6 +1,6 @@
--- galois: PLACEHOLDER, say here what this crate has.
-pub mod Eigenvector
-pub mod Independence
+-- The theory of eigenvectors of the p-th power: they exist, decide whether T has a proper divisor, and carry roots from one field to another.
+mod Eigenvector
+mod Independence
 pub mod Express
 pub mod Transfer
 pub mod FirstNonZero

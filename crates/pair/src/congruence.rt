@@ -1,7 +1,7 @@
 // The congruences of a pair. Two of them, T1(S) = 0 and R(S) = X modulo T2, imply the other two, and one matrix of the powers of S serves both.
-use matrix::product::apply;
 use matrix::powers::column;
 use matrix::powers::powers;
+use matrix::product::apply;
 use modular::word::add;
 use residue::ring::product;
 use residue::ring::residue_of_x;

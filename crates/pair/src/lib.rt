@@ -2,4 +2,4 @@
 //   checker      the public call `check`, with its refusals
 //   congruence   the test of the congruences, on arrays of 16 words
 pub mod checker;
-pub mod congruence;
+mod congruence;

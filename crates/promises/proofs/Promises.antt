@@ -2,9 +2,11 @@
 use Rattle.answer.proofs.LongInput as Answer
 use Rattle.card.proofs.Theorem as Card
 use Rattle.finder.proofs.Theorem as Finder
+use Rattle.held.proofs.Theorem as Held
 use Rattle.pair.proofs.Theorem as Pair
 use Rattle.quotient.proofs.Theorem as Quotient
 use Rattle.session.proofs.Theorem as Session
+use Rattle.text.proofs.Theorem as Text
 use Rattle.promises.specs.Promises.{Promises}
 use Rattle.promises.proofs.Examples as Examples
 
@@ -13,7 +15,7 @@ promises =
     record {
       every-run = Session.every-run;
       refusals-change-nothing = Session.refusals-change-nothing;
-      counts-as-held = Session.counts-as-held;
+      counts-as-held = Held.counts-as-held;
       accepted = Pair.checker-theorem;
       degree-one = Pair.degree-one;
       group-by-group = Session.group-by-group;
@@ -33,6 +35,7 @@ promises =
       written-reads-back = Card.written-reads-back;
       read-is-written = Card.read-is-written;
       longest-card = Card.longest-card;
+      decimal-is-decimal = Text.decimal-is-decimal;
       long-input = Answer.long-input;
       examples = Examples.examples;
     }

@@ -11,11 +11,13 @@ use Rattle.finder.specs.Theorem.{Demand3Theorem}
 use Rattle.pair.specs.Theorem.{CheckerTheorem, DegreeOne}
 use Rattle.quotient.specs.DivisorTest.{DivisorTestIsExact}
 use Rattle.quotient.specs.Theorem.{ResiduesAreARing, ModulusVanishes, ProductIsRemainder, SubstitutionIsSum, SubstitutionPreserves, ResiduesAreListed, NonZeroIsUnit, PowerOfUnit, IrreducibleDivisor, FrobeniusIsLinear}
-use Rattle.session.specs.Theorem.{EveryRun, RefusalsChangeNothing, CountsAsHeld, GroupByGroup, BackAgain}
+use Rattle.held.specs.Theorem.{CountsAsHeld}
+use Rattle.session.specs.Theorem.{EveryRun, RefusalsChangeNothing, GroupByGroup, BackAgain}
+use Rattle.text.specs.Theorem.{DecimalIsDecimal}
 use Rattle.promises.specs.Examples.{Examples}
 
 pub record Promises : Type 0 where
-  -- Demand 1 (session/specs/Theorem.antt): every list of calls makes of a new session one that is new, loaded or paired with an accepted pair; a
+  -- Demand 1 (session/specs/Theorem.antt, held/specs/Theorem.antt): every list of calls makes of a new session one that is new, loaded or paired with an accepted pair; a
   -- refused call gives back the session and leaves the lent lists; what calls make counts as what it holds
   pub every-run : EveryRun
   pub refusals-change-nothing : RefusalsChangeNothing
@@ -46,7 +48,8 @@ pub record Promises : Type 0 where
   pub written-reads-back : WrittenReadsBack
   pub read-is-written : ReadIsWritten
   pub longest-card : LongestCard
-  -- The program's text (answer/specs/Theorem.antt)
+  -- Text (text/specs/Theorem.antt), and what the program prints (answer/specs/Theorem.antt)
+  pub decimal-is-decimal : DecimalIsDecimal
   pub long-input : LongInput
   -- Small fields by hand, A to I (specs/Examples.antt)
   pub examples : Examples

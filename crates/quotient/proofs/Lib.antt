@@ -1,5 +1,5 @@
 -- The theory of residues modulo a monic polynomial.
-pub mod Action
+mod Action
 pub mod Operations
 pub mod Sums
 pub mod TimesX
@@ -8,12 +8,12 @@ pub mod Evaluation
 pub mod Reduction
 pub mod Substitution
 pub mod SumOfPowers
-pub mod Remainder
+mod Remainder
 pub mod Listing
 pub mod Divisor
 pub mod Decision
 pub mod Descent
-pub mod Units
+mod Units
 pub mod Field
 pub mod Frobenius
 pub mod Theorem

@@ -14,7 +14,6 @@ use Rattle.array.specs.Array.{padded, Holds, entry, Square, rowProduct}
 use Rattle.matrix.specs.Matrix.{matrixProduct}
 use Rattle.array.proofs.Padded.{holds-word, array-fits}
 use Rattle.array.proofs.Painted.{painted}
-
 use Rattle.matrix.proofs.Filled.{painted-turn, painted-done}
 
 -- the product of a row with u

@@ -1,6 +1,6 @@
 -- `job::find_behind` writes what the finder has written behind T1 and T2.
 use borrow.Author.Needs.{needs}
-use Rattle.answer.proofs.JobWords.{pair-behind}
+use Rattle.answer.proofs.job.JobWords.{pair-behind}
 use Rattle.answer.proofs.job.find_behind.Statement.{statement}
 use Rattle.answer.proofs.job.find_behind.Tie as tie
 

@@ -2,7 +2,7 @@
 use borrow.Author.Needs.{needs}
 use native.Mathlib.Omega.{arith}
 use Rattle.answer.proofs.Parts.{prefix-length}
-use Rattle.answer.proofs.PairCard.{prime-fits, words-few, card-written}
+use Rattle.answer.proofs.job.PairCard.{prime-fits, words-few, card-written}
 use Rattle.answer.proofs.job.write_card.Statement.{statement}
 use Rattle.answer.proofs.job.write_card.Tie as tie
 

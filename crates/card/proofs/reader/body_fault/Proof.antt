@@ -1,6 +1,6 @@
 -- `reader::body_fault`: one law for each return.
 use borrow.Author.Needs.{needs}
-use Rattle.card.proofs.ReadFaults.{body-length, body-fill, body-word, body-none}
+use Rattle.card.proofs.reader.ReadFaults.{body-length, body-fill, body-word, body-none}
 use Rattle.card.proofs.reader.body_fault.Statement.{statement}
 use Rattle.card.proofs.reader.body_fault.Tie as tie
 

@@ -1,6 +1,6 @@
 -- `reader::entry`: the list that the reader writes, entry by entry.
 use borrow.Author.Needs.{needs}
-use Rattle.card.proofs.Scans.{place-fits}
+use Rattle.card.proofs.reader.Scans.{place-fits}
 use Rattle.card.proofs.Entries.{entry-word, entry-zero}
 use Rattle.card.proofs.reader.entry.Statement.{statement}
 use Rattle.card.proofs.reader.entry.Tie as tie

@@ -1,6 +1,6 @@
 -- `reader::fault`: one law for each return.
 use borrow.Author.Needs.{needs}
-use Rattle.card.proofs.ReadFaults.{read-room, read-short, read-prime, read-kind, read-body}
+use Rattle.card.proofs.reader.ReadFaults.{read-room, read-short, read-prime, read-kind, read-body}
 use Rattle.card.proofs.reader.fault.Statement.{statement}
 use Rattle.card.proofs.reader.fault.Tie as tie
 

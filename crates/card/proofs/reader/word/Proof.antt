@@ -1,6 +1,6 @@
 -- `reader::word`: word k begins behind the header and k words.
 use borrow.Author.Needs.{needs}
-use Rattle.card.proofs.Scans.{field-place}
+use Rattle.card.proofs.reader.Scans.{field-place}
 use Rattle.card.proofs.reader.word.Statement.{statement}
 use Rattle.card.proofs.reader.word.Tie as tie
 

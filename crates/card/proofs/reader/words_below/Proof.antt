@@ -6,7 +6,7 @@ use borrow.Author.Needs.{needs}
 use Rattle.array.specs.Words.{allBelow}
 use Rattle.card.specs.Bits.{unpacked}
 use Rattle.card.specs.Card.{fieldsAt}
-use Rattle.card.proofs.Scans.{words-next, words-fail, words-hold, place-fits}
+use Rattle.card.proofs.reader.Scans.{words-next, words-fail, words-hold, place-fits}
 use Rattle.card.proofs.reader.words_below.Statement.{statement}
 use Rattle.card.proofs.reader.words_below.Tie as tie
 

@@ -6,7 +6,7 @@ use borrow.Author.Needs.{needs}
 use Rattle.algebra.specs.Lists.{all}
 use Rattle.card.specs.Bits.{unpacked}
 use Rattle.card.proofs.Zeros.{isZero}
-use Rattle.card.proofs.Scans.{zero-next, zero-fails, zero-holds}
+use Rattle.card.proofs.reader.Scans.{zero-next, zero-fails, zero-holds}
 use Rattle.card.proofs.reader.zero_from.Statement.{statement}
 use Rattle.card.proofs.reader.zero_from.Tie as tie
 

@@ -1,6 +1,6 @@
 -- `writer::bit`: one law for each field of the card.
 use borrow.Author.Needs.{needs}
-use Rattle.card.proofs.WrittenBits.{bit-prime, bit-degree, bit-kind, bit-words}
+use Rattle.card.proofs.writer.WrittenBits.{bit-prime, bit-degree, bit-kind, bit-words}
 use Rattle.card.proofs.writer.bit.Statement.{statement}
 use Rattle.card.proofs.writer.bit.Tie as tie
 

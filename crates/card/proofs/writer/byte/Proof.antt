@@ -5,7 +5,7 @@ use borrow.Author.Needs.{needs}
 use Rattle.card.specs.Bits.{unpacked}
 use Rattle.card.specs.Card.{card, fieldAt}
 use Rattle.card.proofs.Places.{field-starts, field-turn, field-turn-small, field-end-below, byte-fits}
-use Rattle.card.proofs.WrittenBits.{byte-end}
+use Rattle.card.proofs.writer.WrittenBits.{byte-end}
 use Rattle.card.proofs.writer.byte.Statement.{statement}
 use Rattle.card.proofs.writer.byte.Tie as tie
 

@@ -1,6 +1,6 @@
 -- `writer::fault`: one law for each return.
 use borrow.Author.Needs.{needs}
-use Rattle.card.proofs.WriteFaults.{prime-most, degree-most, write-prime, write-degree, write-kind, write-count, write-size, write-word, write-none}
+use Rattle.card.proofs.writer.WriteFaults.{prime-most, degree-most, write-prime, write-degree, write-kind, write-count, write-size, write-word, write-none}
 use Rattle.card.proofs.writer.fault.Statement.{statement}
 use Rattle.card.proofs.writer.fault.Tie as tie
 

@@ -2,7 +2,7 @@
 use Prim.Native.Nat.{_/_}
 use native.Mathlib.Omega.{arith}
 use borrow.Author.Needs.{needs}
-use Rattle.card.proofs.WrittenBits.{behind-fits, word-digit, word-past}
+use Rattle.card.proofs.writer.WrittenBits.{behind-fits, word-digit, word-past}
 use Rattle.card.proofs.writer.word_bit.Statement.{statement}
 use Rattle.card.proofs.writer.word_bit.Tie as tie
 

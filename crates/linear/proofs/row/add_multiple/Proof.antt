@@ -1,9 +1,9 @@
 -- `add_multiple` gives a row operation. The loop's invariant: the columns from c to j − 1 of row x are written, and the rest is as it was.
 use borrow.Author.Needs.{needs}
 use Prim.Native.Nat.{_-_, _≤_}
-use Rattle.linear.proofs.Write.{Written, written-start}
-use Rattle.linear.proofs.RowStep.{added}
-use Rattle.linear.proofs.RowLoop.{added-turn, added-end, next-below, right-below}
+use Rattle.linear.proofs.row.Write.{Written, written-start}
+use Rattle.linear.proofs.row.RowStep.{added}
+use Rattle.linear.proofs.row.RowLoop.{added-turn, added-end, next-below, right-below}
 use Rattle.linear.proofs.row.add_multiple.Statement.{statement}
 use Rattle.linear.proofs.row.add_multiple.Tie as tie
 

@@ -1,6 +1,6 @@
 -- e + f·g is at most p², and so it can be reduced.
 use borrow.Author.Needs.{needs}
-use Rattle.linear.proofs.RowLoop.{sum-few, sum-fits, sum-is}
+use Rattle.linear.proofs.row.RowLoop.{sum-few, sum-fits, sum-is}
 use Rattle.linear.proofs.row.plus_product.Statement.{statement}
 use Rattle.linear.proofs.row.plus_product.Tie as tie
 

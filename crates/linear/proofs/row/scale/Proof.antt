@@ -1,9 +1,9 @@
 -- `scale` gives a row operation. The loop's invariant: the columns from c to j − 1 of row c are written, and the rest is as it was.
 use borrow.Author.Needs.{needs}
 use Prim.Native.Nat.{_-_, _≤_}
-use Rattle.linear.proofs.Write.{Written, written-start}
-use Rattle.linear.proofs.RowStep.{scaled}
-use Rattle.linear.proofs.RowLoop.{scaled-turn, scaled-end, next-below, right-below}
+use Rattle.linear.proofs.row.Write.{Written, written-start}
+use Rattle.linear.proofs.row.RowStep.{scaled}
+use Rattle.linear.proofs.row.RowLoop.{scaled-turn, scaled-end, next-below, right-below}
 use Rattle.linear.proofs.row.scale.Statement.{statement}
 use Rattle.linear.proofs.row.scale.Tie as tie
 

@@ -1,7 +1,7 @@
 -- `kernel_vector` fills a vector that the matrix takes to 0. The loop's invariant: the words before j are those of column c, negated.
 use borrow.Author.Needs.{needs}
 use Prim.Native.Nat.{_-_}
-use Rattle.linear.proofs.Kernel.{Filled, fill-start, fill-turn, column-below, kernel-holds, kernel-singular}
+use Rattle.linear.proofs.system.Kernel.{Filled, fill-start, fill-turn, column-below, kernel-holds, kernel-singular}
 use Rattle.linear.proofs.system.kernel_vector.Statement.{statement}
 use Rattle.linear.proofs.system.kernel_vector.Tie as tie
 

@@ -3,7 +3,7 @@ use borrow.Author.Needs.{needs}
 use native.Mathlib.Omega.{arith}
 use Prim.Native.Nat.{_-_, _≤_}
 use Rattle.linear.specs.Elimination.{Advanced}
-use Rattle.linear.proofs.Answer.{walk-start, walk-turn, no-pivot, outcome-singular, outcome-regular}
+use Rattle.linear.proofs.system.Answer.{walk-start, walk-turn, no-pivot, outcome-singular, outcome-regular}
 use Rattle.linear.proofs.system.solve.Statement.{statement}
 use Rattle.linear.proofs.system.solve.Tie as tie
 

@@ -1,6 +1,6 @@
 -- With j the place of the highest bit of p, 2^j ≤ p < 2^(j + 1), the shift is j − 4 or 0.
 use lib.Count.{leading-le}
-use Rattle.modular.proofs.Shift.{shift-none, shift-some}
+use Rattle.modular.proofs.barrett.Shift.{shift-none, shift-some}
 use Rattle.modular.proofs.barrett.shift_of.Statement.{statement}
 use Rattle.modular.proofs.barrett.shift_of.Tie as tie
 

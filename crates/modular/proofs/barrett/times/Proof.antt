@@ -1,6 +1,6 @@
 -- The product of two numbers of 32 bits has 64.
 use borrow.Author.Needs.{needs}
-use Rattle.modular.proofs.Reciprocal.{times-fits}
+use Rattle.modular.proofs.barrett.Reciprocal.{times-fits}
 use Rattle.modular.proofs.barrett.times.Statement.{statement}
 use Rattle.modular.proofs.barrett.times.Tie as tie
 

@@ -8,7 +8,7 @@ use borrow.Author.Needs.{needs}
 use Rattle.algebra.specs.Lists.{all, range}
 use Rattle.modular.specs.Prime.{largestPrime, isPrime}
 use Rattle.modular.proofs.IsPrime.{indivisible}
-use Rattle.modular.proofs.TrialDivision.{Table, too-small, too-large, entry-positive, divided, undivided, all-undivided}
+use Rattle.modular.proofs.prime.TrialDivision.{Table, too-small, too-large, entry-positive, divided, undivided, all-undivided}
 use Rattle.modular.proofs.prime.is_prime.Statement.{statement}
 use Rattle.modular.proofs.prime.is_prime.Tie as tie
 

@@ -1,7 +1,7 @@
 -- `word::cofactor` is Euclid's algorithm, with Bézout's equation as its invariant. The measure is y, which the remainder replaces.
 use native.Mathlib.Omega.{arith}
 use borrow.Author.Needs.{needs}
-use Rattle.modular.proofs.Bezout.{Bezout, bezout-start, bezout-turn, bezout-end, quotient-small, remainder-less, next-small}
+use Rattle.modular.proofs.word.Bezout.{Bezout, bezout-start, bezout-turn, bezout-end, quotient-small, remainder-less, next-small}
 use Rattle.modular.proofs.word.cofactor.Statement.{statement}
 use Rattle.modular.proofs.word.cofactor.Tie as tie
 

@@ -1,6 +1,6 @@
 -- The quotient that is subtracted is x / p or one less.
 use borrow.Author.Needs.{needs}
-use Rattle.modular.proofs.Reciprocal.{shift-fits, high-short, reciprocal-short, near-below, near-small, near-mod}
+use Rattle.modular.proofs.barrett.Reciprocal.{shift-fits, high-short, reciprocal-short, near-below, near-small, near-mod}
 use Rattle.modular.proofs.barrett.Barrett.near.Statement.{statement}
 use Rattle.modular.proofs.barrett.Barrett.near.Tie as tie
 

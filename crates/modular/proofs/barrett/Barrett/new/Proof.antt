@@ -2,7 +2,7 @@
 use borrow.Author.Needs.{needs}
 use native.Mathlib.Omega.{arith}
 use mathlib.Core.Path.{refl}
-use Rattle.modular.proofs.Shift.{shift-short, reduces-new}
+use Rattle.modular.proofs.barrett.Shift.{shift-short, reduces-new}
 use Rattle.modular.proofs.barrett.Barrett.new.Statement.{statement}
 use Rattle.modular.proofs.barrett.Barrett.new.Tie as tie
 

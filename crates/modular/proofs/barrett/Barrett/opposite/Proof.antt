@@ -1,6 +1,6 @@
 -- 2·p − y + x is a multiple of p, for y that is x modulo p.
 use borrow.Author.Needs.{needs}
-use Rattle.modular.proofs.Reciprocal.{opposite-mod}
+use Rattle.modular.proofs.barrett.Reciprocal.{opposite-mod}
 use Rattle.modular.proofs.barrett.Barrett.opposite.Statement.{statement}
 use Rattle.modular.proofs.barrett.Barrett.opposite.Tie as tie
 

@@ -1,7 +1,7 @@
 -- A number below 2·p that is x modulo p, less p where it is p or more.
 use borrow.Author.Needs.{needs}
 use native.Mathlib.Omega.{arith}
-use Rattle.modular.proofs.Reciprocal.{once-none, once-more}
+use Rattle.modular.proofs.barrett.Reciprocal.{once-none, once-more}
 use Rattle.modular.proofs.barrett.Barrett.reduce.Statement.{statement}
 use Rattle.modular.proofs.barrett.Barrett.reduce.Tie as tie
 

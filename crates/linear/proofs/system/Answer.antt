@@ -9,8 +9,8 @@ use lib.ListN.{length, getD, take}
 use lib.Seq.{getD-take}
 use Rattle.array.specs.Words.{Words}
 use Rattle.linear.proofs.Pivoting.{equivalent-refl, equivalent-trans}
-use Rattle.linear.proofs.Sum.{product-single}
-use Rattle.linear.proofs.Vectors.{zero-beyond, holds-of, holds-past}
+use Rattle.linear.proofs.system.Sum.{product-single}
+use Rattle.linear.proofs.system.Vectors.{zero-beyond, holds-of, holds-past}
 use Rattle.array.specs.Array.{rowProduct, Holds, Square}
 use Rattle.array.proofs.Words.{words-length, words-same, zeros-words}
 use Rattle.array.proofs.Padded.{array-length, words-at, holds-word}

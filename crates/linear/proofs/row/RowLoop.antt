@@ -8,10 +8,10 @@ use native.Mathlib.Omega.{arith}
 use lib.ListN.{getD, set}
 use mir.Syntax.{w64}
 use mir.Val.{Fits}
-use Rattle.linear.proofs.Write.{Written, written-turn, written-next}
+use Rattle.linear.proofs.row.Write.{Written, written-turn, written-next}
 use Rattle.array.specs.Array.{entry}
 use Rattle.linear.specs.Elimination.{Reduced, RowStep}
-use Rattle.linear.proofs.RowStep.{added, scaled, added-step, scaled-step}
+use Rattle.linear.proofs.row.RowStep.{added, scaled, added-step, scaled-step}
 
 -- A word plus a product, as the rows' words have it: f·g ≤ p·(p − 1), and e ≤ p. Here w is f·g.
 module _ (p e f g w : ℕ) (h : w ≡ f * g) (he : e < p) (hf : f ≤ p) (hg : g < p) where

@@ -11,7 +11,7 @@ use mir.Val.{Fits}
 use Rattle.modular.specs.declared.barrett.Barrett.{Barrett}
 use Rattle.modular.specs.Barrett.{Reduces}
 use Rattle.modular.proofs.Remainder.{remainder-unique}
-use Rattle.modular.proofs.Shift.{shift-short}
+use Rattle.modular.proofs.barrett.Shift.{shift-short}
 
 pub times-fits : (a b : ℕ) → a < 2 ^ 32 → b < 2 ^ 32 → Fits w64 (a * b)
 times-fits a b h l =

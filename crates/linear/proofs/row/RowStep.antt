@@ -9,9 +9,9 @@ use native.Mathlib.Decide.{ℕ-discrete, decLt}
 use native.Mathlib.Omega.{arith}
 use lib.ListN.{getD, set, length-set}
 use lib.Seq.{getD-set-same, getD-set-other}
-use Rattle.linear.proofs.Combination.{Combination, SameButRow, equivalent-by-row}
+use Rattle.linear.proofs.row.Combination.{Combination, SameButRow, equivalent-by-row}
 use Rattle.linear.proofs.Congruence.{sum-congruent, product-congruent}
-use Rattle.linear.proofs.Write.{Written, written-other, written-left}
+use Rattle.linear.proofs.row.Write.{Written, written-other, written-left}
 use Rattle.array.specs.Array.{entry}
 use Rattle.linear.specs.Elimination.{Reduced, RowStep}
 

@@ -8,8 +8,8 @@ use native.Mathlib.Nat.{mod-self, mod-lt, zero-mod, mod-add-mod}
 use native.Mathlib.Omega.{arith}
 use lib.ListN.{length, getD, take, set, replicate, length-set}
 use lib.Seq.{getD-set-same, getD-set-other, getD-take}
-use Rattle.linear.proofs.Sum.{product-zero, product-double}
-use Rattle.linear.proofs.Vectors.{zero-beyond, holds-of}
+use Rattle.linear.proofs.system.Sum.{product-zero, product-double}
+use Rattle.linear.proofs.system.Vectors.{zero-beyond, holds-of}
 use Rattle.array.specs.Array.{entry, rowProduct, Holds}
 use Rattle.array.proofs.Words.{words-length}
 use Rattle.linear.specs.System.{Singular}

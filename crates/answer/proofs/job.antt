@@ -1,0 +1,3 @@
+-- The laws on which the proofs of `job` rest.
+mod JobWords
+mod PairCard

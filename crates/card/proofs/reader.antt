@@ -1,0 +1,3 @@
+-- The laws on which the proofs of `reader` rest.
+mod Scans
+mod ReadFaults

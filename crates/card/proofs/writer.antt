@@ -1,0 +1,3 @@
+-- The laws on which the proofs of `writer` rest.
+mod WriteFaults
+mod WrittenBits

@@ -1,0 +1,5 @@
+-- The laws on which the proofs of `row` rest.
+mod Combination
+mod Write
+mod RowStep
+mod RowLoop

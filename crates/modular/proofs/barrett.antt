@@ -1,0 +1,3 @@
+-- The laws on which the proofs of `barrett` rest.
+mod Shift
+mod Reciprocal
