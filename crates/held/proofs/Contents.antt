@@ -6,7 +6,7 @@
 use mathlib.Core.Path.{_≡_, refl, sym, ap, _∙_}
 use mathlib.Core.Bool.{Bool, true, false, not, _&&_, and-eq-true-iff}
 use mathlib.Core.List.{List, [], _∷_}
-use Prim.Native.Nat.{ℕ, _≤_}
+use Prim.Native.Nat.{ℕ, _^_, _≤_}
 use native.Mathlib.Omega.{arith}
 use borrow.Author.Tests.{not-true}
 use lib.ListN.{length, take}
@@ -106,6 +106,12 @@ valid-given p n xss h =
 pub valid-degree : (p n : ℕ) (xss : List (List ℕ)) → valid p n xss ≡ true → n ≤ largestDegree
 valid-degree p n xss h = degree-given n (valid-given p n xss h .1) .1
 
+pub valid-size : (p n : ℕ) (xss : List (List ℕ)) → valid p n xss ≡ true → (2 ≤ p) × (p ≤ 2 ^ 16) × (1 ≤ n) × (n ≤ 16)
+valid-size p n xss h =
+    let (prime, degree, _) = valid-given p n xss h in
+    let (is-prime, small) = prime-given p prime in
+    (is-prime .0, omega arith, degree-given n degree .0, degree-given n degree .1)
+
 valid-sent : (p n : ℕ) (xss : List (List ℕ)) → valid p n xss ≡ true → (n ≤ largestDegree → All (λ xs. length xs ≡ n) xss) → Sent p n xss xss
 valid-sent p n xss h lengths =
     let (prime, degree, words) = valid-given p n xss h in
@@ -132,6 +138,17 @@ front-models p n xs ys l1 l2 h t1 t2 e1 e2 =
     rw (e1, e2)
     (sent-models p n (take n xs) (take n ys) [] [] (valid-sent p n _ h (λ small. (front-length n xs l1 small, (front-length n ys l2 small, tt)))))
 
+-- T2 and S, and T1 and R, of models with a pair
+pub maps-valid : (p n : ℕ) (t1 t2 s r : List ℕ) → valid p n (t1 ∷ t2 ∷ s ∷ r ∷ []) ≡ true
+    → (valid p n (t2 ∷ s ∷ []) ≡ true) × (valid p n (t1 ∷ r ∷ []) ≡ true)
+unfolding valid
+maps-valid p n t1 t2 s r h =
+    let (prime, degree, words) = valid-given p n (t1 ∷ t2 ∷ s ∷ r ∷ []) h in
+    let below = below-given p (t1 ∷ t2 ∷ s ∷ r ∷ []) words in (
+      rw (prime, degree, given-below p (t2 ∷ s ∷ []) (below .1 .0, (below .1 .1 .0, tt))),
+      rw (prime, degree, given-below p (t1 ∷ r ∷ []) (below .0, (below .1 .1 .1 .0, tt))),
+    )
+
 pub paired-given : (x : Held) → Arrays x → (state : State) → state ≡ viewState (view x) → state ≡ Paired
     → Given (x .p) (x .n) (t1Of x) (t2Of x) (sOf x) (rOf x)
 paired-given x arrays state e h =
@@ -147,14 +164,14 @@ sent-valid : (p n : ℕ) (xss yss : List (List ℕ)) → Sent p n xss yss → va
 unfolding valid
 sent-valid p n xss yss h = rw (given-prime p (h .prime) (h .small), given-degree n (h .low) (h .high), given-below p yss (h .below))
 
-front : {p n : ℕ} {u : List ℕ} → Words p n u → take n (padded u) ≡ u
-front {n = n} {u = u} w = take-padded n u (words-length w)
+pub front-held : {p n : ℕ} {u : List ℕ} → Words p n u → take n (padded u) ≡ u
+front-held {n = n} {u = u} w = take-padded n u (words-length w)
 
 pub view-loaded : {p n : ℕ} {t1 t2 : List ℕ} → Models p n t1 t2 → view (loadedHeld p n t1 t2) ≡ loaded p n t1 t2
 unfolding view loadedHeld viewAs
-view-loaded {p} {n} {t1} {t2} m = rw (front (m .modulus1), front (m .modulus2), sent-valid p n _ _ (models-sent p n t1 t2 [] m tt))
+view-loaded {p} {n} {t1} {t2} m = rw (front-held (m .modulus1), front-held (m .modulus2), sent-valid p n _ _ (models-sent p n t1 t2 [] m tt))
 
 pub view-paired : {p n : ℕ} {t1 t2 s r : List ℕ} → Given p n t1 t2 s r → view (pairedHeld p n t1 t2 s r) ≡ paired p n t1 t2 s r
 unfolding view pairedHeld viewAs
 view-paired {p} {n} {t1} {t2} {s} {r} g =
-    rw (front (g .models .modulus1), front (g .models .modulus2), front (g .words-s), front (g .words-r), sent-valid p n _ _ (all-sent p n t1 t2 s r g))
+    rw (front-held (g .models .modulus1), front-held (g .models .modulus2), front-held (g .words-s), front-held (g .words-r), sent-valid p n _ _ (all-sent p n t1 t2 s r g))

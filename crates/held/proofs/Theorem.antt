@@ -2,13 +2,17 @@
 use mathlib.Core.Path.{_≡_, refl, sym}
 use mathlib.Core.List.{List}
 use Prim.Native.Nat.{ℕ, zero, suc}
+use Rattle.pair.specs.Pair.{checkNumber}
+use Rattle.pair.specs.Theorem.{Given}
 use Rattle.finder.proofs.Theorem.{accepted-pair}
-use Rattle.held.specs.Held.{View, empty, loaded, paired, view, viewAs, newHeld, loadedHeld, answer, loadFrom, load, proposeFrom, propose, findFrom, find}
+use Rattle.held.specs.Held.{View, empty, loaded, paired, view, viewAs, t1Of, t2Of, sOf, rOf, newHeld, loadedHeld, pairedHeld, answer, loadFrom, load, proposeFrom, propose, findFrom, find}
 use Rattle.held.specs.Theorem.{Reached, is-new, is-loaded, is-paired, CallsReach, RefusalsKeep, CountsAsHeld}
+use Rattle.held.specs.ViewState.{viewState}
 use Rattle.held.specs.declared.Held.{Held}
+use Rattle.held.specs.declared.State.the-variants.{Paired}
 use Rattle.held.proofs.Answer.{answer-keeps}
 use Rattle.held.proofs.Accepted.{loaded-models, check-models, accepted-given}
-use Rattle.held.proofs.Contents.{view-loaded, view-paired}
+use Rattle.held.proofs.Contents.{front-held, view-loaded, view-paired}
 
 view-new : view newHeld ≡ empty
 unfolding view viewAs
@@ -85,3 +89,12 @@ calls-reach =
       propose-reaches = propose-reaches;
       find-reaches = find-reaches;
     }
+
+-- a value that is reached and counts as paired has a pair that the checker accepts
+pub reached-accepted : {x : Held} → Reached x → viewState (view x) ≡ Paired → checkNumber (x .p) (x .n) (t1Of x) (t2Of x) (sOf x) (rOf x) ≡ 0
+unfolding viewState pairedHeld
+reached-accepted is-new e = let z : viewState empty ≡ Paired = rw view-new at e in cc
+reached-accepted (is-loaded p n t1 t2 m) e = let z : viewState (loaded p n t1 t2) ≡ Paired = rw (view-loaded m) at e in cc
+reached-accepted (is-paired p n t1 t2 s r h) e =
+    let g : Given p n t1 t2 s r = accepted-given p n 0 t1 t2 s r (sym h) refl in
+    rw (front-held (g .models .modulus1), front-held (g .models .modulus2), front-held (g .words-s), front-held (g .words-r)) h

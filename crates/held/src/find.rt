@@ -16,7 +16,15 @@ ghost use Rattle.refusal.specs.Models.{Models};
 ghost use Rattle.held.specs.Held.{loaded, valid, findFrom, find as findOf};
 
 // The answer where x counts as loaded with two models. The finder writes its pair into s and r.
-fn find_pair(x: Held, p: u32, n: u32, t1: &[Word], t2: &[Word], s: &mut [Word], r: &mut [Word]) -> HeldStep
+fn find_pair(
+    x: Held,
+    p: u32,
+    n: u32,
+    t1: &[Word],
+    t2: &[Word],
+    s: &mut [Word],
+    r: &mut [Word],
+) -> HeldStep
     requires { ⌜ Models p n (now t1) (now t2) ⌝ }
     requires { ⌜ (length (now s) ≡ n) × (length (now r) ≡ n) ⌝ }
     ensures { λ y. ⌜ y ≡ findFrom (loaded p n (now (t1 .entry)) (now (t2 .entry))) x ⌝ }
@@ -43,7 +51,15 @@ fn find_loaded(x: Held, p: u32, n: u32, t1: [Word; DEGREE], t2: [Word; DEGREE]) 
     let k = n as usize;
     let mut s = [0; DEGREE];
     let mut r = [0; DEGREE];
-    find_pair(x, p, n, front(&t1, n), front(&t2, n), &mut s[..k], &mut r[..k])
+    find_pair(
+        x,
+        p,
+        n,
+        front(&t1, n),
+        front(&t2, n),
+        &mut s[..k],
+        &mut r[..k],
+    )
 }
 
 impl Held {

@@ -16,7 +16,15 @@ ghost use Rattle.refusal.specs.Models.{Models};
 ghost use Rattle.held.specs.Held.{loaded, valid, proposeFrom, propose as proposeOf};
 
 // The answer where x counts as loaded with two models.
-fn propose_pair(x: Held, p: u32, n: u32, t1: &[Word], t2: &[Word], s: &[Word], r: &[Word]) -> HeldStep
+fn propose_pair(
+    x: Held,
+    p: u32,
+    n: u32,
+    t1: &[Word],
+    t2: &[Word],
+    s: &[Word],
+    r: &[Word],
+) -> HeldStep
     requires { ⌜ Models p n (now t1) (now t2) ⌝ }
     ensures { λ y. ⌜ y ≡ proposeFrom (loaded p n (now (t1 .entry)) (now (t2 .entry))) x (now (s .entry)) (now (r .entry)) ⌝ }
 {
