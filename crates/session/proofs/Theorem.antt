@@ -1,45 +1,60 @@
 -- The proofs of what specs/Theorem.antt states of sessions.
-use mathlib.Core.Path.{_≡_, _∙_}
-use mathlib.Core.List.{List}
-use Prim.Native.Nat.{ℕ, _/_}
-use lib.ListN.{length}
+use mathlib.Core.Path.{_≡_, refl, sym, ap}
+use mathlib.Core.List.{List, [], _∷_}
+use Rattle.refusal.proofs.Written.{output-old}
 use Rattle.pair.specs.Pair.{forward, backward}
-use Rattle.pair.proofs.Theorem.{checker-theorem}
-use Rattle.quotient.specs.Residue.{substitute}
-use Rattle.session.specs.Session.{converted, convertNumber}
-use Rattle.session.specs.Theorem.{EveryRun, CountsAsHeld, Images, GroupByGroup, BackAgain, is-new}
-use Rattle.session.proofs.Again as Again
-use Rattle.session.proofs.Again.{forward-output, back-output}
-use Rattle.session.proofs.Groups as Groups
-use Rattle.session.proofs.Groups.{converted-length}
-use Rattle.session.proofs.Reached.{reached-run, view-new, view-loaded, view-paired}
-use Rattle.session.proofs.Table.{Convertible, table-given, whole-groups}
-pub use Rattle.session.proofs.Unchanged.{refusals-change-nothing}
+use Rattle.pair.specs.Theorem.{Given}
+use Rattle.held.specs.Held.{view, t1Of, t2Of, sOf, rOf}
+use Rattle.held.specs.Theorem.{Reached, is-new}
+use Rattle.held.specs.declared.State.the-variants.{Paired}
+use Rattle.held.proofs.Contents.{paired-given}
+use Rattle.held.proofs.Theorem.{refusals-keep, calls-reach}
+use Rattle.table.proofs.Convertible.{Convertible, table-given}
+use Rattle.table.proofs.Groups.{converted-images}
+use Rattle.session.specs.Session.{withHeld, convertNumber, outputBy}
+use Rattle.session.specs.Theorem.{Call, callLoad, callPropose, callFind, callForward, callBack, callClear, next, run, EveryRun, RefusalsChangeNothing, GroupByGroup, BackAgain}
+use Rattle.session.specs.declared.Session.{Session}
+use Rattle.session.proofs.Conversion.{is-paired, table-accepted, output-accepted}
+use Rattle.session.proofs.RoundTrip as RoundTrip
 
-pub counts-as-held : CountsAsHeld
-counts-as-held =
-    record {
-      new-is-empty = view-new;
-      loaded-is-loaded = λ p n t1 t2 m. view-loaded m;
-      paired-is-paired = λ p n t1 t2 s r a. view-paired (checker-theorem p n t1 t2 s r .0 a .0);
-    }
+reached-next : (x : Session) → Reached (x .held) → (c : Call) → Reached (next x c .held)
+unfolding next
+reached-next x h (callLoad p n t1 t2) = calls-reach .load-reaches h p n t1 t2
+reached-next x h (callPropose s r) = calls-reach .propose-reaches h s r
+reached-next x h callFind = calls-reach .find-reaches h
+reached-next x h (callForward table out) = h
+reached-next x h (callBack table out) = h
+reached-next x h callClear = is-new
 
-converted-images : (p n : ℕ) (t s table out : List ℕ) → length t ≡ n → Convertible p n table out
-    → Images n (substitute p t s) table (converted p n t s (length table / n) table)
-converted-images p n t s table out l c =
+reached-run : (x : Session) → Reached (x .held) → (cs : List Call) → Reached (run x cs .held)
+unfolding run
+reached-run x h [] = h
+reached-run x h (c ∷ cs) = reached-run (next x c) (reached-next x h c) cs
+
+pub every-run : EveryRun
+every-run cs = reached-run _ is-new cs
+
+pub refusals-change-nothing : RefusalsChangeNothing
+unfolding outputBy
+refusals-change-nothing x =
     record {
-      same-length = converted-length p n t s l (length table / n) table ∙ whole-groups c;
-      groups = λ k below. Groups.group-by-group p n t s l (length table / n) k table below;
+      load-keeps = λ p n t1 t2 h. ap (withHeld x) (refusals-keep .load-keeps (x .held) p n t1 t2 h);
+      propose-keeps = λ s r h. ap (withHeld x) (refusals-keep .propose-keeps (x .held) s r h);
+      find-keeps = λ h. ap (withHeld x) (refusals-keep .find-keeps (x .held) h);
+      convert-keeps = λ table out. refl;
+      forward-keeps = λ table out h. sym (output-old _ (convertNumber (view (x .held)) table out) _ out refl h);
+      back-keeps = λ table out h. sym (output-old _ (convertNumber (view (x .held)) table out) _ out refl h);
     }
 
 pub group-by-group : GroupByGroup
-unfolding convertNumber forward backward
-group-by-group x p n t1 t2 s r table out e l1 l2 h =
-    let c : Convertible p n table out = table-given p n table out (rw e at h) in
-    (rw (forward-output x e c) (converted-images p n t2 s table out l2 c), rw (back-output x e c) (converted-images p n t1 r table out l1 c))
-
-pub every-run : EveryRun
-every-run cs = reached-run is-new cs
+unfolding forward backward
+group-by-group x arrays table out h =
+    let y = x .held in
+    let g : Given (y .p) (y .n) (t1Of y) (t2Of y) (sOf y) (rOf y) = paired-given y arrays Paired (sym (is-paired y table out h)) refl in
+    let c : Convertible (y .p) (y .n) table out = table-given (y .p) (y .n) table out (table-accepted y table out h) in (
+      rw (output-accepted y table out h (t2Of y) (sOf y)) (converted-images c (g .models .prime .0) (g .models .modulus2) (g .words-s)),
+      rw (output-accepted y table out h (t1Of y) (rOf y)) (converted-images c (g .models .prime .0) (g .models .modulus1) (g .words-r)),
+    )
 
 pub back-again : BackAgain
-back-again cs table out lent h room = Again.back-again (every-run cs) table out lent h room
+back-again cs table out lent h room = RoundTrip.back-again (every-run cs) table out lent h room

@@ -1,4 +1,4 @@
--- The session: what a value counts as, each call's answer, and what is proved of every list of calls.
+-- The session: each call's answer, and what is proved of every list of calls.
 pub mod Session
-pub mod ViewState
+pub mod MapOf
 pub mod Theorem

@@ -1,34 +1,17 @@
--- `back` meets its contract: the output is written only where the number is 0.
+-- T1 and R are a map of what is held.
 use borrow.Author.Needs.{needs}
-use Rattle.session.proofs.Outputs.{convert-step, table-not-refused, maps-given, back-done, back-kept}
+use Rattle.session.proofs.Conversion.{back-map}
 use Rattle.session.proofs.Session.back.Statement.{statement}
 use Rattle.session.proofs.Session.back.Tie as tie
 
-convert-number-requires : tie.Need-convert-number-requires
-convert-number-requires c κs = search needs
-
-convert-words-requires : tie.Need-convert-words-requires
-convert-words-requires c κs = (search maps-given, search table-not-refused)
+convert-requires : tie.Need-convert-requires
+convert-requires c κs = search back-map
 
 same-length : tie.Need-same-length
 same-length c = search needs
 
 returns : tie.Need-returns
-returns c = (search convert-step, search back-done)
-
-same-length-2 : tie.Need-same-length-2
-same-length-2 c = search needs
-
-returns-2 : tie.Need-returns-2
-returns-2 c = (search convert-step, search back-kept)
+returns c = (cc, search needs)
 
 pub back-spec : {M : Type 1} → statement M
-back-spec =
-    tie.close
-    (tie.spec
-    convert-number-requires
-    convert-words-requires
-    same-length
-    returns
-    same-length-2
-    returns-2)
+back-spec = tie.close (tie.spec convert-requires same-length returns)

@@ -1,43 +1,16 @@
--- `find` meets its contract, by the state that the session counts as.
+-- The answer is that of what is held.
 use borrow.Author.Needs.{needs}
-use Rattle.session.proofs.Finding.{find-empty, find-loaded, find-paired}
-use Rattle.session.proofs.Seen.{loaded-valid}
 use Rattle.session.proofs.Session.find.Statement.{statement}
 use Rattle.session.proofs.Session.find.Tie as tie
 
-counts-as-requires : tie.Need-counts-as-requires
-counts-as-requires c κs = search needs
+find-requires : tie.Need-find-requires
+find-requires c κs = search needs
 
-enum-told : tie.Need-enum-told
-enum-told c = search needs
-
-enum-told-2 : tie.Need-enum-told-2
-enum-told-2 c = search needs
-
-find-loaded-requires : tie.Need-find-loaded-requires
-find-loaded-requires c κs = search loaded-valid
-
-enum-told-3 : tie.Need-enum-told-3
-enum-told-3 c = search needs
+step-with-requires : tie.Need-step-with-requires
+step-with-requires c κs = search needs
 
 returns : tie.Need-returns
-returns c = search find-empty
-
-returns-2 : tie.Need-returns-2
-returns-2 c = search find-loaded
-
-returns-3 : tie.Need-returns-3
-returns-3 c = search find-paired
+returns c = cc
 
 pub find-spec : {M : Type 1} → statement M
-find-spec =
-    tie.close
-    (tie.spec
-    counts-as-requires
-    enum-told
-    enum-told-2
-    find-loaded-requires
-    enum-told-3
-    returns
-    returns-2
-    returns-3)
+find-spec = tie.close (tie.spec find-requires step-with-requires returns)

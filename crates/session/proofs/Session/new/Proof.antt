@@ -1,12 +1,13 @@
--- A new session is empty.
-use mathlib.Core.Path.{refl}
-use Rattle.session.specs.Session.{newSession}
+-- A new session holds a new value.
+use borrow.Author.Needs.{needs}
 use Rattle.session.proofs.Session.new.Statement.{statement}
 use Rattle.session.proofs.Session.new.Tie as tie
 
+new-requires : tie.Need-new-requires
+new-requires c κs = search needs
+
 returns : tie.Need-returns
-unfolding newSession
-returns c = refl
+returns c = cc
 
 pub new-spec : {M : Type 1} → statement M
-new-spec = tie.close (tie.spec returns)
+new-spec = tie.close (tie.spec new-requires returns)

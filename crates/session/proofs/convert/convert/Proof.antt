@@ -1,85 +1,38 @@
--- `convert` meets its contract. Before a turn at i the first i words of the output are the images of the groups passed.
+-- The output is written only where the number is 0.
 use borrow.Author.Needs.{needs}
-use Prim.Native.Nat.{_-_}
-use lib.ListN.{length}
-use Rattle.matrix.proofs.PowerMatrix.{square-of-powers}
-use Rattle.session.proofs.Converting.{Progress, starts, group-ends, output-ends, output-part, part-words, turn, done, keeps-length}
+use Rattle.refusal.proofs.Written.{output-new, output-old}
+use Rattle.session.specs.Session.{outputBy}
+use Rattle.session.proofs.convert.Laws.{map-valid, table-given}
 use Rattle.session.proofs.convert.convert.Statement.{statement}
 use Rattle.session.proofs.convert.convert.Tie as tie
 
-abbrev Inv-loop : tie.InvT-loop
-Inv-loop p n t s table out₀ m i₀ out i = Progress p n t s table out m i
+convert-number-requires : tie.Need-convert-number-requires
+convert-number-requires c κs = search needs
 
-abbrev μ-loop : tie.MeasureT-loop
-μ-loop p n t s table out₀ m i₀ out i = length table - i
+convert-words-requires : tie.Need-convert-words-requires
+convert-words-requires c κs = (search map-valid, search table-given)
 
-powers-requires : tie.Need-powers-requires Inv-loop μ-loop
-powers-requires c κs = search needs
+same-length : tie.Need-same-length
+same-length c = search needs
 
-loop-holds : tie.Need-loop-holds Inv-loop μ-loop
-loop-holds c = search starts
+returns : tie.Need-returns
+unfolding outputBy
+returns c = (search needs, search output-new)
 
-add-e : tie.Need-add-e Inv-loop μ-loop
-add-e c = search needs
+same-length-2 : tie.Need-same-length-2
+same-length-2 c = search needs
 
-mul-convert-group : tie.Need-mul-convert-group Inv-loop μ-loop
-mul-convert-group c = search needs
-
-sub-convert-group : tie.Need-sub-convert-group Inv-loop μ-loop
-sub-convert-group c = search needs
-
-part-convert-group-start : tie.Need-part-convert-group-start Inv-loop μ-loop
-part-convert-group-start c = search needs
-
-part-convert-group-end : tie.Need-part-convert-group-end Inv-loop μ-loop
-part-convert-group-end c = search (group-ends, needs)
-
-mul-convert-group-2 : tie.Need-mul-convert-group-2 Inv-loop μ-loop
-mul-convert-group-2 c = search needs
-
-sub-convert-group-2 : tie.Need-sub-convert-group-2 Inv-loop μ-loop
-sub-convert-group-2 c = search needs
-
-part-convert-group-start-2 : tie.Need-part-convert-group-start-2 Inv-loop μ-loop
-part-convert-group-start-2 c = search needs
-
-part-convert-group-end-2 : tie.Need-part-convert-group-end-2 Inv-loop μ-loop
-part-convert-group-end-2 c = search (output-ends, needs)
-
-convert-group-requires : tie.Need-convert-group-requires Inv-loop μ-loop
-convert-group-requires c κs = ((search needs, search needs, search needs, search output-part), (search square-of-powers, search part-words))
-
-loop-less : tie.Need-loop-less Inv-loop μ-loop
-loop-less c = search needs
-
-loop-again : tie.Need-loop-again Inv-loop μ-loop
-loop-again c = search turn
-
-same-length : tie.Need-same-length Inv-loop μ-loop
-same-length c = search keeps-length
-
-returns : tie.Need-returns Inv-loop μ-loop
-returns c = search done
+returns-2 : tie.Need-returns-2
+unfolding outputBy
+returns-2 c = (search needs, search output-old)
 
 pub convert-spec : {M : Type 1} → statement M
 convert-spec =
     tie.close
     (tie.spec
-    Inv-loop
-    μ-loop
-    powers-requires
-    loop-holds
-    add-e
-    mul-convert-group
-    sub-convert-group
-    part-convert-group-start
-    part-convert-group-end
-    mul-convert-group-2
-    sub-convert-group-2
-    part-convert-group-start-2
-    part-convert-group-end-2
-    convert-group-requires
-    loop-less
-    loop-again
+    convert-number-requires
+    convert-words-requires
     same-length
-    returns)
+    returns
+    same-length-2
+    returns-2)

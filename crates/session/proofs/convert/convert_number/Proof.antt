@@ -1,6 +1,6 @@
--- `convert_number` meets its contract, by the state that the session counts as.
+-- By the state of what the value counts as.
 use borrow.Author.Needs.{needs}
-use Rattle.session.proofs.Outputs.{convert-empty, convert-loaded, paired-degree, convert-paired}
+use Rattle.session.proofs.convert.Laws.{convert-empty, convert-loaded, paired-positive, convert-paired}
 use Rattle.session.proofs.convert.convert_number.Statement.{statement}
 use Rattle.session.proofs.convert.convert_number.Tie as tie
 
@@ -20,7 +20,7 @@ cast-table-number : tie.Need-cast-table-number
 cast-table-number c = search needs
 
 table-number-requires : tie.Need-table-number-requires
-table-number-requires c κs = search paired-degree
+table-number-requires c κs = search paired-positive
 
 returns : tie.Need-returns
 returns c = search convert-empty

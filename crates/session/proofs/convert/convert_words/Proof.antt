@@ -1,49 +1,39 @@
--- `convert_words` meets its contract: the arrays hold T and S.
-use native.Mathlib.Omega.{arith}
+-- The first n words of the arrays are lists of n words below p.
 use borrow.Author.Needs.{needs}
-use Prim.Native.Nat.{_≤_}
-use Rattle.session.proofs.Outputs.{modulus-holds, image-holds, converts-words}
-use Rattle.session.proofs.Valid.{prefix-length, prefix-short, valid-degree, valid-size}
+use Rattle.held.proofs.Contents.{valid-size, front-fits}
+use Rattle.session.proofs.convert.Laws.{modulus-words, image-words, converts-fronts}
 use Rattle.session.proofs.convert.convert_words.Statement.{statement}
 use Rattle.session.proofs.convert.convert_words.Tie as tie
 
-array-share-prefix-t : tie.Need-array-share-prefix-t
-array-share-prefix-t c = let h : c .before .before .args .n ≤ 16 = search valid-degree in omega arith
+slice-aggregate-front : tie.Need-slice-aggregate-front
+slice-aggregate-front c = search needs
 
-slice-aggregate-load : tie.Need-slice-aggregate-load
-slice-aggregate-load c = prefix-length _ (c .before .before .before .args .t3) (array-share-prefix-t (c .before))
+front-requires : tie.Need-front-requires
+front-requires c κs = search front-fits
 
-load-requires : tie.Need-load-requires
-load-requires c κs = search (prefix-short, valid-degree)
+slice-aggregate-front-2 : tie.Need-slice-aggregate-front-2
+slice-aggregate-front-2 c = search needs
 
-array-share-prefix-s : tie.Need-array-share-prefix-s
-array-share-prefix-s c = let h : c .before .before .before .before .args .n ≤ 16 = search valid-degree in omega arith
-
-slice-aggregate-load-2 : tie.Need-slice-aggregate-load-2
-slice-aggregate-load-2 c = prefix-length _ (c .before .before .before .before .before .args .t4) (array-share-prefix-s (c .before))
-
-load-requires-2 : tie.Need-load-requires-2
-load-requires-2 c κs = search (prefix-short, valid-degree)
+front-requires-2 : tie.Need-front-requires-2
+front-requires-2 c κs = search front-fits
 
 convert-requires : tie.Need-convert-requires
-convert-requires c κs = (search valid-size, ((search modulus-holds, search image-holds), search needs))
+convert-requires c κs = (search valid-size, ((search modulus-words, search image-words), search needs))
 
 same-length : tie.Need-same-length
 same-length c = search needs
 
 returns : tie.Need-returns
-returns c = search converts-words
+returns c = search converts-fronts
 
 pub convert-words-spec : {M : Type 1} → statement M
 convert-words-spec =
     tie.close
     (tie.spec
-    array-share-prefix-t
-    slice-aggregate-load
-    load-requires
-    array-share-prefix-s
-    slice-aggregate-load-2
-    load-requires-2
+    slice-aggregate-front
+    front-requires
+    slice-aggregate-front-2
+    front-requires-2
     convert-requires
     same-length
     returns)

@@ -1,0 +1,6 @@
+-- What a value counts as, and what is proved of load, propose and find.
+mod Accepted
+mod Answer
+mod Calls
+pub mod Contents
+pub mod Theorem

@@ -1,0 +1,2 @@
+-- What the proofs of `find` use.
+mod Laws

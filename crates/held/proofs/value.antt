@@ -1,0 +1,2 @@
+-- What the proofs of `loaded` and `paired` use.
+mod Laws

@@ -1,0 +1,2 @@
+-- What the proofs of `counts_as` and the functions below it use.
+mod Laws

@@ -1,0 +1,105 @@
+-- What a session holds (document 01, "The session"): "a value: empty, loaded (p, n, T1, T2) or paired (also S, R)".
+--   largestDegree               the largest n; each array has as many words
+--   View                        what a value counts as
+--   valid p n xss               1, 2 and 4 refuse neither p nor n nor a word of the lists
+--   t1Of x, t2Of x, sOf x, rOf x    the first n words of the arrays of x
+--   view x                      what x counts as: a value with a p, n or coefficient, of those that its state has, that 1, 2 or 4 refuses counts as a
+--                               new one, which is empty
+--   newHeld, loadedHeld, pairedHeld    the values that the calls make
+--   answer k next taken         number k: the next value where k is 0, else the value taken
+--   load x p n t1 t2            load: empty to loaded; 23, 1 to 4
+--   propose x s r               propose S, R: loaded to paired if the checker accepts; 21, 24, 3, 4, 8
+--   find x                      find: loaded to paired with the finder's pair; 21, 24, 5, 6, 7
+use mathlib.Core.Bool.{Bool, true, false, _&&_, not}
+use mathlib.Core.List.{List, [], _∷_}
+use Prim.Native.Nat.{ℕ, zero, suc}
+use lib.ListN.{take, replicate}
+use Rattle.finder.specs.Finder.{findS, findR, refuseFind}
+use Rattle.refusal.specs.Refusal.{refuse, refuseSent, badPrime, badDegree, badLength, badWord}
+use Rattle.pair.specs.Pair.{refusePair}
+use Rattle.array.specs.Array.{padded}
+use Rattle.held.specs.declared.Held.{Held}
+use Rattle.held.specs.declared.HeldStep.{HeldStep}
+use Rattle.held.specs.declared.State.{State}
+use Rattle.held.specs.declared.State.the-variants.{Empty, Loaded, Paired}
+
+abbrev pub largestDegree : ℕ
+largestDegree = 16
+
+pub data View : Type 0 where
+  empty : View
+  loaded : (p n : ℕ) (t1 t2 : List ℕ) → View
+  paired : (p n : ℕ) (t1 t2 s r : List ℕ) → View
+
+unfoldable pub valid : ℕ → ℕ → List (List ℕ) → Bool
+valid p n xss = not (badPrime p) && not (badDegree n) && not (badWord p xss)
+
+abbrev pub ifValid : Bool → View → View
+ifValid true v = v
+ifValid false v = empty
+
+unfoldable pub viewAs : State → ℕ → ℕ → List ℕ → List ℕ → List ℕ → List ℕ → View
+viewAs Empty p n t1 t2 s r = empty
+viewAs Loaded p n t1 t2 s r = ifValid (valid p n (t1 ∷ t2 ∷ [])) (loaded p n t1 t2)
+viewAs Paired p n t1 t2 s r = ifValid (valid p n (t1 ∷ t2 ∷ s ∷ r ∷ [])) (paired p n t1 t2 s r)
+
+abbrev pub t1Of : Held → List ℕ
+t1Of x = take (x .n) (x .t1)
+
+abbrev pub t2Of : Held → List ℕ
+t2Of x = take (x .n) (x .t2)
+
+abbrev pub sOf : Held → List ℕ
+sOf x = take (x .n) (x .s)
+
+abbrev pub rOf : Held → List ℕ
+rOf x = take (x .n) (x .r)
+
+unfoldable pub view : Held → View
+view x = viewAs (x .state) (x .p) (x .n) (t1Of x) (t2Of x) (sOf x) (rOf x)
+
+abbrev pub zeros : List ℕ
+zeros = replicate largestDegree 0
+
+abbrev pub newHeld : Held
+newHeld = record { state = Empty; p = 0; n = 0; t1 = zeros; t2 = zeros; s = zeros; r = zeros }
+
+unfoldable pub loadedHeld : ℕ → ℕ → List ℕ → List ℕ → Held
+loadedHeld p n t1 t2 = record { state = Loaded; p = p; n = n; t1 = padded t1; t2 = padded t2; s = zeros; r = zeros }
+
+unfoldable pub pairedHeld : ℕ → ℕ → List ℕ → List ℕ → List ℕ → List ℕ → Held
+pairedHeld p n t1 t2 s r =
+    record { state = Paired; p = p; n = n; t1 = padded t1; t2 = padded t2; s = padded s; r = padded r }
+
+unfoldable pub answer : ℕ → Held → Held → HeldStep
+answer zero next taken = record { number = 0; held = next }
+answer (suc k) next taken = record { number = suc k; held = taken }
+
+unfoldable pub loadFrom : View → Held → ℕ → ℕ → List ℕ → List ℕ → HeldStep
+loadFrom empty x p n t1 t2 = answer (refuseSent p n (t1 ∷ t2 ∷ []) (t1 ∷ t2 ∷ []) 0) (loadedHeld p n t1 t2) x
+loadFrom (loaded q m u1 u2) x p n t1 t2 = answer 23 x x
+loadFrom (paired q m u1 u2 s r) x p n t1 t2 = answer 23 x x
+
+unfoldable pub load : Held → ℕ → ℕ → List ℕ → List ℕ → HeldStep
+load x p n t1 t2 = loadFrom (view x) x p n t1 t2
+
+unfoldable pub proposeFrom : View → Held → List ℕ → List ℕ → HeldStep
+proposeFrom empty x s r = answer 21 x x
+proposeFrom (loaded p n t1 t2) x s r =
+    answer
+    (refuse 3 (badLength n (s ∷ r ∷ [])) (refuse 4 (badWord p (s ∷ r ∷ [])) (refusePair p t1 t2 s r)))
+    (pairedHeld p n t1 t2 s r)
+    x
+proposeFrom (paired p n t1 t2 s' r') x s r = answer 24 x x
+
+unfoldable pub propose : Held → List ℕ → List ℕ → HeldStep
+propose x s r = proposeFrom (view x) x s r
+
+unfoldable pub findFrom : View → Held → HeldStep
+findFrom empty x = answer 21 x x
+findFrom (loaded p n t1 t2) x =
+    answer (refuseFind p n t1 t2) (pairedHeld p n t1 t2 (findS p n t1 t2) (findR p n t1 t2)) x
+findFrom (paired p n t1 t2 s r) x = answer 24 x x
+
+unfoldable pub find : Held → HeldStep
+find x = findFrom (view x) x

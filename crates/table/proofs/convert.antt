@@ -1,0 +1,2 @@
+-- What the proofs of conversion use.
+mod Laws

@@ -1,0 +1,2 @@
+-- What the proof of `table_number` uses.
+mod Laws
