@@ -1,4 +1,4 @@
 -- The finder: its values, its answer, and demand 3.
 pub mod Finder
-mod Construct
+pub mod Construct
 pub mod Theorem

@@ -1,3 +1,3 @@
 -- Systems of linear equations modulo p in a flat array, and what elimination does to them.
 pub mod System
-mod Elimination
+pub mod Elimination

@@ -1,5 +1,5 @@
 -- The laws on which the proofs of `ring` rest.
-mod Reduce
-mod Product
-mod Substitute
+mod ReduceLoop
+mod ProductLoop
+mod HornerLoop
 mod PowerOfX

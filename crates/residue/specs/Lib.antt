@@ -1,2 +1,2 @@
 -- What the contracts on residues cite beside the definitions of the crate quotient: words whose reduction is put off.
-mod Delayed
+pub mod Delayed

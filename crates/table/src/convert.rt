@@ -2,8 +2,8 @@
 use array::Word;
 use array::copy::load;
 use array::copy::store;
-use matrix::product::apply;
 use matrix::powers::powers;
+use matrix::product::apply;
 ghost use mathlib.Core.Path.{_≡_};
 ghost use Prim.Native.Nat.{_/_, _^_, _≤_};
 ghost use lib.ListN.{length};

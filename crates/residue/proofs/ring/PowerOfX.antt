@@ -17,7 +17,7 @@ use Rattle.array.specs.Array.{padded, Holds}
 use Rattle.array.proofs.Padded.{padded-zeros, front-is}
 use Rattle.residue.specs.Delayed.{Delayed, Stepped}
 use Rattle.residue.proofs.Power.{power-holds, power-even, power-odd}
-use Rattle.residue.proofs.ring.Product.{delayed-more}
+use Rattle.residue.proofs.ring.ProductLoop.{delayed-more}
 
 -- the product with X is timesX
 product-x : {p n : ℕ} {t u : List ℕ} → 2 ≤ p → Words p n t → Words p n u → product p t (residueOfX p t) u ≡ timesX p t u

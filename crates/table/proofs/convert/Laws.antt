@@ -14,7 +14,7 @@ use lib.ListN.{length, take, drop, length-drop, length-append}
 use lib.Seq.{length-take-le, drop-drop, take-at, take-all}
 use borrow.Rule.Slice.PartMut.{putMid, postOf, same-len-mid}
 use Rattle.algebra.specs.Lists.{range}
-use Rattle.array.specs.Words.{Words, none, more}
+use Rattle.array.specs.Words.{Words, none, more, wordBound}
 use Rattle.array.specs.Array.{padded, Holds, Square, rowProduct}
 use Rattle.array.proofs.Words.{words-length, words-up, take-words, drop-words}
 use Rattle.array.proofs.Padded.{holds-is, front-is, take-padded}

@@ -5,7 +5,7 @@ use borrow.Fn.PlainCycle.{Measures, is, falls, and}
 use Prim.Native.Nat.{ℕ, _<_}
 use native.Mathlib.Omega.{arith}
 use Rattle.residue.proofs.ring.PowerOfX.{monomial-below}
-use Rattle.residue.proofs.ring.Product.{reduced-is, delayed-same}
+use Rattle.residue.proofs.ring.ProductLoop.{reduced-is, delayed-same}
 use Rattle.residue.proofs.ring.raise.Reads as raise
 use Rattle.residue.proofs.ring.reduce.Reads as reduce
 use Rattle.residue.proofs.ring.power_of_x_by_halving.Reads as power

@@ -4,7 +4,7 @@ use Prim.Native.Nat.{_-_, _≤_}
 use lib.ListN.{take, drop}
 use Rattle.quotient.specs.Residue.{product}
 use Rattle.residue.specs.Delayed.{Delayed}
-use Rattle.residue.proofs.ring.Product.{product-starts, next-word, top-small, step-given, product-turn, product-done}
+use Rattle.residue.proofs.ring.ProductLoop.{product-starts, next-word, top-small, step-given, product-turn, product-done}
 use Rattle.residue.proofs.ring.accumulate.Statement.{statement}
 use Rattle.residue.proofs.ring.accumulate.Tie as tie
 

@@ -1,6 +1,6 @@
 -- The product with delayed reduction, and its words reduced.
 use borrow.Author.Needs.{needs}
-use Rattle.residue.proofs.ring.Product.{reduce-given, reduced-is}
+use Rattle.residue.proofs.ring.ProductLoop.{reduce-given, reduced-is}
 use Rattle.residue.proofs.ring.multiply.Statement.{statement}
 use Rattle.residue.proofs.ring.multiply.Tie as tie
 

@@ -1,7 +1,7 @@
 -- The square of the power to half the exponent, and a step of Horner's rule with c = 0 for the factor X where the exponent is odd.
 use borrow.Author.Needs.{needs}
 use Rattle.residue.proofs.ring.PowerOfX.{half-holds, raise-even, raise-odd}
-use Rattle.residue.proofs.ring.Product.{top-small, step-given}
+use Rattle.residue.proofs.ring.ProductLoop.{top-small, step-given}
 use Rattle.residue.proofs.ring.raise.Statement.{statement}
 use Rattle.residue.proofs.ring.raise.Tie as tie
 
