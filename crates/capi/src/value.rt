@@ -1,8 +1,9 @@
 // Sessions to values with a number for the state, and back.
 use crate::sessions::SessionValue;
 use crate::sessions::StepValue;
+use held::Held;
+use held::State;
 use session::Session;
-use session::State;
 use session::Step;
 ghost use mathlib.Core.Path.{_≡_};
 ghost use Rattle.capi.specs.Values.{stateOf, numberOf, sessionOf, valueOf, stepOf};
@@ -34,7 +35,7 @@ pub fn session_of(v: SessionValue) -> Session
     let t2 = v.t2;
     let s = v.s;
     let r = v.r;
-    Session {
+    let held = Held {
         state: state_of(v.state),
         p: v.p,
         n: v.n,
@@ -42,21 +43,23 @@ pub fn session_of(v: SessionValue) -> Session
         t2: t2,
         s: s,
         r: r,
-    }
+    };
+    Session { held: held }
 }
 
 fn value_of(x: Session) -> SessionValue
     ensures { λ r. ⌜ r ≡ valueOf x ⌝ }
 {
-    let state = x.state;
-    let t1 = x.t1;
-    let t2 = x.t2;
-    let s = x.s;
-    let r = x.r;
+    let held = x.held;
+    let state = held.state;
+    let t1 = held.t1;
+    let t2 = held.t2;
+    let s = held.s;
+    let r = held.r;
     SessionValue {
         state: number_of(state),
-        p: x.p,
-        n: x.n,
+        p: held.p,
+        n: held.n,
         t1: t1,
         t2: t2,
         s: s,

@@ -21,7 +21,9 @@ use Rattle.quotient.specs.DivisorTest.{hasDivisor}
 use Rattle.quotient.specs.Residue.{sum, scale, constant, shift, top, timesX, product, power, residueOfX, substitute, modulusAt}
 use Rattle.refusal.proofs.Refusal.{refuse-none}
 use Rattle.array.specs.Array.{padded}
-use Rattle.session.specs.Session.{valid, viewAs, view, pairedSession, converted, tableNumber, convertNumber, imageForward, imageBack, forwardOutput, backOutput}
+use Rattle.held.specs.Held.{valid, viewAs, view, pairedHeld}
+use Rattle.table.specs.Table.{eachGroup, converted, tableNumber}
+use Rattle.session.specs.Session.{convertNumber, outputBy}
 use Rattle.examples.specs.Examples.{Found, Examples}
 use Rattle.examples.proofs.Root.{root}
 use Rattle.examples.proofs.Listed.{found, outputs}
@@ -30,7 +32,7 @@ use Rattle.examples.proofs.Refused.{words-counted, factor-divides, indi
 pub examples : Examples
 unfolding all equal first range bits numberFrom bytes packed width allBits card badKind cardLength writeNumber writeOutput zeta rootOfRatio firstNonZero findNumber isPrime badPrime badDegree badLength
     badWord allBelow accepts checkNumber monic polynomialProduct sum scale constant shift top timesX product power residueOfX substitute modulusAt
-    padded valid viewAs view pairedSession converted tableNumber convertNumber imageForward imageBack forwardOutput backOutput
+    padded valid viewAs view pairedHeld eachGroup converted tableNumber convertNumber outputBy
 examples =
     let A : Found 3 2 (1 ∷ 0 ∷ []) (2 ∷ 1 ∷ []) 2 (0 ∷ 1 ∷ []) (1 ∷ 2 ∷ []) 2 2 1 (1 ∷ 2 ∷ []) (1 ∷ 2 ∷ []) =
     found refl refl refl (root refl refl refl refl refl) (root refl refl refl refl refl) refl refl in
