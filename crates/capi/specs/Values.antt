@@ -7,9 +7,10 @@
 use Prim.Native.Nat.{ℕ, zero, suc}
 use Rattle.capi.specs.declared.sessions.SessionValue.{SessionValue}
 use Rattle.capi.specs.declared.sessions.StepValue.{StepValue}
+use Rattle.held.specs.declared.Held.{Held}
+use Rattle.held.specs.declared.State.{State}
+use Rattle.held.specs.declared.State.the-variants.{Empty, Loaded, Paired}
 use Rattle.session.specs.declared.Session.{Session}
-use Rattle.session.specs.declared.State.{State}
-use Rattle.session.specs.declared.State.the-variants.{Empty, Loaded, Paired}
 use Rattle.session.specs.declared.Step.{Step}
 
 abbrev pub stateOf : ℕ → State
@@ -23,11 +24,17 @@ numberOf Empty = 0
 numberOf Loaded = 1
 numberOf Paired = 2
 
+abbrev pub heldOf : SessionValue → Held
+heldOf v = record { state = stateOf (v .state); p = v .p; n = v .n; t1 = v .t1; t2 = v .t2; s = v .s; r = v .r }
+
 unfoldable pub sessionOf : SessionValue → Session
-sessionOf v = record { state = stateOf (v .state); p = v .p; n = v .n; t1 = v .t1; t2 = v .t2; s = v .s; r = v .r }
+sessionOf v = record { held = heldOf v }
+
+abbrev pub valueWith : Held → SessionValue
+valueWith h = record { state = numberOf (h .state); p = h .p; n = h .n; t1 = h .t1; t2 = h .t2; s = h .s; r = h .r }
 
 unfoldable pub valueOf : Session → SessionValue
-valueOf x = record { state = numberOf (x .state); p = x .p; n = x .n; t1 = x .t1; t2 = x .t2; s = x .s; r = x .r }
+valueOf x = valueWith (x .held)
 
 unfoldable pub answerOf : ℕ → SessionValue → SessionValue → StepValue
 answerOf zero next taken = record { number = 0; session = next }

@@ -1,8 +1,9 @@
 // Sessions to values with a number for the state, and back.
 use crate::sessions::SessionValue;
 use crate::sessions::StepValue;
+use held::Held;
+use held::State;
 use session::Session;
-use session::State;
 use session::Step;
 ghost use mathlib.Core.Path.{_≡_};
 ghost use Rattle.capi.specs.Values.{stateOf, numberOf, sessionOf, valueOf, stepOf};
@@ -37,7 +38,7 @@ pub fn session_of(v: SessionValue) -> Session
     let t2 = v.t2;
     let s = v.s;
     let r = v.r;
-    Session {
+    let held = Held {
         state: state_of(v.state),
         p: v.p,
         n: v.n,
@@ -45,22 +46,24 @@ pub fn session_of(v: SessionValue) -> Session
         t2: t2,
         s: s,
         r: r,
-    }
+    };
+    Session { held: held }
 }
 
 // The value of a session.
 fn value_of(x: Session) -> SessionValue
     ensures { λ r. ⌜ r ≡ valueOf x ⌝ }
 {
-    let state = x.state;
-    let t1 = x.t1;
-    let t2 = x.t2;
-    let s = x.s;
-    let r = x.r;
+    let held = x.held;
+    let state = held.state;
+    let t1 = held.t1;
+    let t2 = held.t2;
+    let s = held.s;
+    let r = held.r;
     SessionValue {
         state: number_of(state),
-        p: x.p,
-        n: x.n,
+        p: held.p,
+        n: held.n,
         t1: t1,
         t2: t2,
         s: s,

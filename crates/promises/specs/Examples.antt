@@ -11,7 +11,8 @@ use Rattle.finder.specs.Finder.{findS, findR, findNumber, findOutputS, findOutp
 use Rattle.pair.specs.Pair.{checkNumber}
 use Rattle.quotient.specs.Divisor.{monic, polynomialProduct}
 use Rattle.array.specs.Words.{Words}
-use Rattle.session.specs.Session.{pairedSession, forwardOutput, backOutput}
+use Rattle.held.specs.Held.{pairedHeld}
+use Rattle.session.specs.Session.{newSession, withHeld, forwardOutput, backOutput}
 
 -- the finder's values for two models, from ζ to R
 pub record FinderValues (p n : ℕ) (t1 t2 : List ℕ) (z : ℕ) (alpha1 alpha2 : List ℕ) (a1 a2 c : ℕ) (s r : List ℕ) : Type 0 where
@@ -36,10 +37,10 @@ pub record Examples : Type 0 where
   -- C: pair of A: forward of [1,1] is [2,2], back of [2,2] is [1,1]
   pub C-forward :
       (out : List ℕ) → length out ≡ 2
-      → forwardOutput (pairedSession 3 2 (1 ∷ 0 ∷ []) (2 ∷ 1 ∷ []) (1 ∷ 2 ∷ []) (1 ∷ 2 ∷ [])) (1 ∷ 1 ∷ []) out ≡ 2 ∷ 2 ∷ []
+      → forwardOutput (withHeld newSession (pairedHeld 3 2 (1 ∷ 0 ∷ []) (2 ∷ 1 ∷ []) (1 ∷ 2 ∷ []) (1 ∷ 2 ∷ []))) (1 ∷ 1 ∷ []) out ≡ 2 ∷ 2 ∷ []
   pub C-back :
       (out : List ℕ) → length out ≡ 2
-      → backOutput (pairedSession 3 2 (1 ∷ 0 ∷ []) (2 ∷ 1 ∷ []) (1 ∷ 2 ∷ []) (1 ∷ 2 ∷ [])) (2 ∷ 2 ∷ []) out ≡ 1 ∷ 1 ∷ []
+      → backOutput (withHeld newSession (pairedHeld 3 2 (1 ∷ 0 ∷ []) (2 ∷ 1 ∷ []) (1 ∷ 2 ∷ []) (1 ∷ 2 ∷ []))) (2 ∷ 2 ∷ []) out ≡ 1 ∷ 1 ∷ []
   -- D: p 7, T1 [5,0,0], T2 [4,0,0]: ζ 2, α1 [0,0,1], α2 [0,1,0], a1 4, a2 3, c 3, S [0,0,1], R [0,0,5]
   pub D :
       FinderValues 7 3 (5 ∷ 0 ∷ 0 ∷ []) (4 ∷ 0 ∷ 0 ∷ []) 2 (0 ∷ 0 ∷ 1 ∷ []) (0 ∷ 1 ∷ 0 ∷ []) 4 3 3 (0 ∷ 0 ∷ 1 ∷ []) (0 ∷ 0 ∷ 5 ∷ [])
