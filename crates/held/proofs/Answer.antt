@@ -1,5 +1,5 @@
 -- Answers of calls: a refused call gives back the value it took, and an accepted one the next value.
-use mathlib.Core.Path.{_≡_, refl, sym, _∙_}
+use mathlib.Core.Path.{_≡_, refl}
 use Prim.Native.Nat.{ℕ, zero, suc}
 use native.Mathlib.Omega.{arith}
 use Rattle.held.specs.Held.{answer}

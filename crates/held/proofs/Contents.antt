@@ -3,7 +3,7 @@
 --   empty-view, loaded-view, paired-view    what x counts as, by the state of that
 --   loaded-models, paired-given             what it holds then: models, and a pair
 --   view-loaded, view-paired                what calls make counts as what it holds
-use mathlib.Core.Path.{_≡_, refl, sym, ap, _∙_}
+use mathlib.Core.Path.{_≡_, refl, sym, _∙_}
 use mathlib.Core.Bool.{Bool, true, false, not, _&&_, and-eq-true-iff}
 use mathlib.Core.List.{List, [], _∷_}
 use Prim.Native.Nat.{ℕ, _^_, _≤_}

@@ -1,11 +1,12 @@
 -- Conversions by what is held: one is not refused exactly where the value counts as paired and 9, 10 and 4 do not apply to the table, and then the
 -- lent list holds the table converted.
-use mathlib.Core.Path.{_≡_, refl, sym, ap}
-use mathlib.Core.List.{List}
+use mathlib.Core.Path.{_≡_, refl, sym, ap, _∙_}
+use mathlib.Core.Bool.{true}
+use mathlib.Core.List.{List, [], _∷_}
 use Prim.Native.Nat.{ℕ}
 use native.Mathlib.Omega.{arith}
 use Rattle.refusal.specs.Refusal.{written}
-use Rattle.held.specs.Held.{View, empty, loaded, paired, view, t1Of, t2Of, sOf, rOf}
+use Rattle.held.specs.Held.{View, empty, loaded, paired, view, valid, t1Of, t2Of, sOf, rOf}
 use Rattle.held.specs.ViewState.{viewState}
 use Rattle.held.specs.declared.Held.{Held}
 use Rattle.held.specs.declared.State.the-variants.{Paired}
@@ -37,6 +38,15 @@ module _ (x : Held) (table out : List ℕ) where
   unfolding convertNumber
   number-accepted e h = rw (paired-view x Paired (sym e) refl) h
 
+-- the same of a number that is the conversion's
+module _ (x : Held) (table out : List ℕ) (k : ℕ) (e : k ≡ convertNumber (view x) table out) (h : k ≡ 0) where
+  pub map-valid : (t s : List ℕ) → MapOf x t s → valid (x .p) (x .n) (t ∷ s ∷ []) ≡ true
+  map-valid t s m = m .is-valid (is-paired x table out (sym e ∙ h))
+
+  pub table-given : tableNumber (x .p) (x .n) table out ≡ 0
+  table-given = table-accepted x table out (sym e ∙ h)
+
+-- the two maps
 module _ (x : Held) where
   pub forward-map : MapOf x (t2Of x) (sOf x)
   forward-map = record { is-valid = λ e. maps-valid (x .p) (x .n) _ _ _ _ (paired-valid x Paired (sym e) refl) .0 }

@@ -1,6 +1,6 @@
 -- In a session that calls have made, back after forward gives every table again, and forward after back: the checker accepts the pair, so that each
 -- map undoes the other on every group.
-use mathlib.Core.Path.{_≡_, sym, ap, _∙_}
+use mathlib.Core.Path.{_≡_, ap, _∙_}
 use mathlib.Core.List.{List}
 use Prim.Native.Nat.{ℕ, _≤_}
 use lib.ListN.{length}

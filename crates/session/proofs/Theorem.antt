@@ -1,5 +1,5 @@
 -- The proofs of what specs/Theorem.antt states of sessions.
-use mathlib.Core.Path.{_≡_, refl, sym, ap}
+use mathlib.Core.Path.{refl, sym, ap}
 use mathlib.Core.List.{List, [], _∷_}
 use Rattle.refusal.proofs.Written.{output-old}
 use Rattle.pair.specs.Pair.{forward, backward}

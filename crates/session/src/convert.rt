@@ -45,26 +45,30 @@ fn convert_words(
     convert_table(p, n, front(&t, n), front(&s, n), table, out);
 }
 
-// The conversion by a map of what is held: the number, and the output where it is 0.
-fn convert(
-    x: Held,
-    t: [Word; Session::DEGREE],
-    s: [Word; Session::DEGREE],
-    table: &[Word],
-    out: &mut [Word],
-) -> u32
-    requires { ⌜ MapOf x (take (x .n) t) (take (x .n) s) ⌝ }
-    ensures { λ r. ⌜ r ≡ convertNumber (view x) (now (table .entry)) (now (out .entry)) ⌝ }
-    ensures { λ _. ⌜ now (out .exit) ≡ outputBy x (take (x .n) t) (take (x .n) s) (now (table .entry)) (now (out .entry)) ⌝ }
-{
-    let number = convert_number(x, table, out);
-    if number == 0 {
-        convert_words(x.p, x.n, t, s, table, out);
-    }
-    number
-}
-
 impl Session {
+    // The conversion by a map of what is held: the output is written where the number is 0.
+    fn convert(
+        self,
+        t: [Word; Session::DEGREE],
+        s: [Word; Session::DEGREE],
+        table: &[Word],
+        out: &mut [Word],
+    ) -> Step
+        requires { ⌜ MapOf (self .held) (take (self .held .n) t) (take (self .held .n) s) ⌝ }
+        ensures { λ r. ⌜ r ≡ convertOf self (now (table .entry)) (now (out .entry)) ⌝ }
+        ensures { λ _. ⌜ now (out .exit) ≡ outputBy (self .held) (take (self .held .n) t) (take (self .held .n) s) (now (table .entry)) (now (out .entry)) ⌝ }
+    {
+        let held = self.held;
+        let number = convert_number(held, table, out);
+        if number == 0 {
+            convert_words(held.p, held.n, t, s, table, out);
+        }
+        Step {
+            number: number,
+            session: self,
+        }
+    }
+
     // Each group of n words of the table becomes its image under u ↦ u(S) modulo T2: 21, 22, 9, 10, 4.
     pub fn forward(self, table: &[Word], out: &mut [Word]) -> Step
         ensures { λ r. ⌜ r ≡ convertOf self (now (table .entry)) (now (out .entry)) ⌝ }
@@ -73,11 +77,7 @@ impl Session {
         let held = self.held;
         let t = held.t2;
         let s = held.s;
-        let number = convert(held, t, s, table, out);
-        Step {
-            number: number,
-            session: self,
-        }
+        self.convert(t, s, table, out)
     }
 
     // The same under u ↦ u(R) modulo T1.
@@ -88,10 +88,6 @@ impl Session {
         let held = self.held;
         let t = held.t1;
         let r = held.r;
-        let number = convert(held, t, r, table, out);
-        Step {
-            number: number,
-            session: self,
-        }
+        self.convert(t, r, table, out)
     }
 }

@@ -1,10 +1,9 @@
 -- What a value counts as, by the tests of the code: each law has a test's outcome and what is valid then.
-use mathlib.Core.Path.{_≡_, refl, sym, _∙_}
+use mathlib.Core.Path.{_≡_, sym, _∙_}
 use mathlib.Core.Bool.{Bool, true, false, not, _&&_, and-true, and-assoc, Bool·not-not}
 use mathlib.Core.List.{List, [], _∷_}
 use Prim.Native.Nat.{ℕ, _≤_}
 use borrow.Author.Tests.{not-true, not-false}
-use lib.ListN.{take}
 use Rattle.algebra.specs.Lists.{all}
 use Rattle.array.specs.Words.{allBelow}
 use Rattle.modular.specs.Prime.{isPrime}

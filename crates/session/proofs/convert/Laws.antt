@@ -1,5 +1,5 @@
 -- The number of a conversion, by the state of what the value counts as, and the words of the arrays by which it converts.
-use mathlib.Core.Path.{_≡_, refl, sym, _∙_}
+use mathlib.Core.Path.{_≡_, refl}
 use mathlib.Core.Bool.{true}
 use mathlib.Core.List.{List, [], _∷_}
 use Prim.Native.Nat.{ℕ, _≤_}
@@ -13,9 +13,7 @@ use Rattle.held.specs.declared.State.{State}
 use Rattle.held.specs.declared.State.the-variants.{Empty, Loaded, Paired}
 use Rattle.held.proofs.Contents.{empty-view, loaded-view, paired-view, paired-valid, valid-size, front-models}
 use Rattle.table.specs.Table.{converted, tableNumber}
-use Rattle.session.specs.MapOf.{MapOf}
 use Rattle.session.specs.Session.{convertNumber}
-use Rattle.session.proofs.Conversion.{is-paired, table-accepted}
 
 module _ (x : Held) (table out : List ℕ) (state : State) (e : state ≡ viewState (view x)) where
   pub convert-empty : state ≡ Empty → 21 ≡ convertNumber (view x) table out
@@ -46,11 +44,3 @@ module _ (p n : ℕ) (xs ys : List ℕ) (l1 : length xs ≡ largestDegree) (l2 :
 
 pub converts-fronts : (p n : ℕ) (t s t' s' table out : List ℕ) → t' ≡ t → s' ≡ s → out ≡ converted p n t' s' table → out ≡ converted p n t s table
 converts-fronts p n t s t' s' table out e f g = rw (e, f) at g
-
--- the conversion where the number is 0
-module _ (x : Held) (table out : List ℕ) (k : ℕ) (e : k ≡ convertNumber (view x) table out) (h : k ≡ 0) where
-  pub map-valid : (t s : List ℕ) → MapOf x t s → valid (x .p) (x .n) (t ∷ s ∷ []) ≡ true
-  map-valid t s m = m .is-valid (is-paired x table out (sym e ∙ h))
-
-  pub table-given : tableNumber (x .p) (x .n) table out ≡ 0
-  table-given = table-accepted x table out (sym e ∙ h)

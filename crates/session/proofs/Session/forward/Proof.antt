@@ -11,7 +11,7 @@ same-length : tie.Need-same-length
 same-length c = search needs
 
 returns : tie.Need-returns
-returns c = (cc, search needs)
+returns c = search needs
 
 pub forward-spec : {M : Type 1} → statement M
 forward-spec = tie.close (tie.spec convert-requires same-length returns)

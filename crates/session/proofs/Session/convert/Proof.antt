@@ -2,9 +2,9 @@
 use borrow.Author.Needs.{needs}
 use Rattle.refusal.proofs.Written.{output-new, output-old}
 use Rattle.session.specs.Session.{outputBy}
-use Rattle.session.proofs.convert.Laws.{map-valid, table-given}
-use Rattle.session.proofs.convert.convert.Statement.{statement}
-use Rattle.session.proofs.convert.convert.Tie as tie
+use Rattle.session.proofs.Conversion.{map-valid, table-given}
+use Rattle.session.proofs.Session.convert.Statement.{statement}
+use Rattle.session.proofs.Session.convert.Tie as tie
 
 convert-number-requires : tie.Need-convert-number-requires
 convert-number-requires c κs = search needs
@@ -17,14 +17,14 @@ same-length c = search needs
 
 returns : tie.Need-returns
 unfolding outputBy
-returns c = (search needs, search output-new)
+returns c = (cc, search output-new)
 
 same-length-2 : tie.Need-same-length-2
 same-length-2 c = search needs
 
 returns-2 : tie.Need-returns-2
 unfolding outputBy
-returns-2 c = (search needs, search output-old)
+returns-2 c = (cc, search output-old)
 
 pub convert-spec : {M : Type 1} → statement M
 convert-spec =
