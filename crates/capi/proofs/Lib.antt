@@ -1,1 +1,1 @@
-pub mod Values
+mod Values

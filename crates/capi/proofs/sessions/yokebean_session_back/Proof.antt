@@ -1,4 +1,4 @@
--- `yokebean_session_back` meets its contract.
+-- `yokebean_session_back`: the session's conversion, and the value that was taken.
 use borrow.Author.Needs.{needs}
 use Rattle.capi.proofs.Values.{convert-answers, back-writes}
 use Rattle.capi.proofs.sessions.yokebean_session_back.Statement.{statement}

@@ -1,4 +1,4 @@
--- `yokebean_session_clear` meets its contract.
+-- `yokebean_session_clear`: the value as a session, the session's call, and its answer as a value.
 use borrow.Author.Needs.{needs}
 use Rattle.capi.proofs.Values.{clear-answers}
 use Rattle.capi.proofs.sessions.yokebean_session_clear.Statement.{statement}

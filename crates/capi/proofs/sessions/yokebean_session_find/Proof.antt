@@ -1,4 +1,4 @@
--- `yokebean_session_find` meets its contract.
+-- `yokebean_session_find`: the value as a session, the session's call, and its answer as a value.
 use borrow.Author.Needs.{needs}
 use Rattle.capi.proofs.Values.{find-answers}
 use Rattle.capi.proofs.sessions.yokebean_session_find.Statement.{statement}

@@ -1,4 +1,4 @@
--- `yokebean_session_forward` meets its contract.
+-- `yokebean_session_forward`: the session's conversion, and the value that was taken.
 use borrow.Author.Needs.{needs}
 use Rattle.capi.proofs.Values.{convert-answers, forward-writes}
 use Rattle.capi.proofs.sessions.yokebean_session_forward.Statement.{statement}

@@ -1,4 +1,4 @@
--- `yokebean_session_new` meets its contract.
+-- `yokebean_session_new`: the value of a new session.
 use Rattle.capi.proofs.Values.{new-made}
 use Rattle.capi.proofs.sessions.yokebean_session_new.Statement.{statement}
 use Rattle.capi.proofs.sessions.yokebean_session_new.Tie as tie

@@ -1,4 +1,4 @@
--- `session_of` meets its contract.
+-- `session_of`: field by field.
 use borrow.Author.Needs.{needs}
 use Rattle.capi.proofs.Values.{session-made}
 use Rattle.capi.proofs.value.session_of.Statement.{statement}

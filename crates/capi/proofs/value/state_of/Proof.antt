@@ -1,4 +1,4 @@
--- `state_of` meets its contract.
+-- `state_of`: the state of each number, 3 and above being empty.
 use borrow.Author.Needs.{needs}
 use Rattle.capi.proofs.Values.{state-other}
 use Rattle.capi.proofs.value.state_of.Statement.{statement}

@@ -1,4 +1,4 @@
--- `step_of` meets its contract.
+-- `step_of`: refused, the value that was taken; else the next one.
 use borrow.Author.Needs.{needs}
 use Rattle.capi.proofs.Values.{step-refused, step-accepted}
 use Rattle.capi.proofs.value.step_of.Statement.{statement}

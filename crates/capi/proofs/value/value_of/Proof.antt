@@ -1,4 +1,4 @@
--- `value_of` meets its contract.
+-- `value_of`: field by field.
 use borrow.Author.Needs.{needs}
 use Rattle.capi.proofs.Values.{value-made}
 use Rattle.capi.proofs.value.value_of.Statement.{statement}
