@@ -1,7 +1,6 @@
 -- The laws of commutative rings and fields, of primes, of polynomials and of finite lists.
 pub mod RingLaws
 pub mod Modulo
-mod Normalise
 pub mod Euclid
 mod Binomial
 pub mod Frobenius

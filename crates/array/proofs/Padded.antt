@@ -47,10 +47,6 @@ words-at (more h w) (suc i) l = words-at w i (omega arith)
 pub holds-word : {p n : ℕ} {xs : List ℕ} → Holds p n xs → (i : ℕ) → i < n → getD xs i 0 < p
 holds-word {p} {n} {xs} h i l = subst (λ a. a < p) (getD-take n xs i 0 l) (words-at (h .words) i l)
 
--- an array with a place below n holds a word below p, so p is not 0
-pub holds-positive : {p n : ℕ} {xs : List ℕ} → Holds p n xs → (i : ℕ) → i < n → 0 < p
-holds-positive h i l = omega (arith, holds-word h i l)
-
 pub holds-padded : {p n : ℕ} {u : List ℕ} → Words p n u → Holds p n (padded u)
 holds-padded {p} {n} {u} w =
     let e : take n (padded u) ≡ u = take-padded n u (words-length w) in

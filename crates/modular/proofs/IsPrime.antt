@@ -2,7 +2,6 @@
 --   indivisible p d   the test that d does not divide p
 use mathlib.Core.Path.{_≡_, refl, sym, ap}
 use mathlib.Core.Bool.{Bool, true, false, not, _&&_, and-eq-true-iff}
-use mathlib.Core.Logic.{_↔_}
 use Prim.Native.Nat.{ℕ, _-_, _%_, _≤_}
 use native.Mathlib.Omega.{arith}
 use lib.Dec.{leb, eqb}
@@ -10,7 +9,7 @@ use borrow.Author.Tests.{leb-true, le-leb, eqb-false, ne-eqb, not-true}
 use Rattle.algebra.specs.Lists.{all, range}
 use Rattle.algebra.specs.Prime.{Prime}
 use Rattle.algebra.proofs.Search.{member-of-all, all-of-members, range-member, range-bounds}
-use Rattle.modular.specs.Prime.{largestPrime, isPrime}
+use Rattle.modular.specs.Prime.{largestPrime, isPrime, PrimeTestIsExact}
 
 abbrev pub indivisible : ℕ → ℕ → Bool
 indivisible p d = not (eqb (p % d) 0)
@@ -40,8 +39,8 @@ test-of-prime p prime h =
           (λ d m. let b = range-bounds 2 (p - 2) d m in indivisible-of p d (prime .1 d (b .0) (omega (arith, prime .0)))),
     )
 
-pub is-prime-iff : (p : ℕ) → (isPrime p ≡ true) ↔ (Prime p × (p ≤ largestPrime))
-is-prime-iff p = (prime-of-test p, λ h. test-of-prime p (h .0) (h .1))
+pub prime-test-is-exact : PrimeTestIsExact
+prime-test-is-exact p = (prime-of-test p, λ h. test-of-prime p (h .0) (h .1))
 
 pub not-prime : (p : ℕ) → (isPrime p ≡ true → ⊥) → false ≡ isPrime p
 not-prime p h = go (isPrime p) refl

@@ -3,6 +3,7 @@ use Rattle.answer.proofs.LongInput as Answer
 use Rattle.card.proofs.Theorem as Card
 use Rattle.finder.proofs.Theorem as Finder
 use Rattle.held.proofs.Theorem as Held
+use Rattle.modular.proofs.IsPrime as Modular
 use Rattle.pair.proofs.Theorem as Pair
 use Rattle.quotient.proofs.Theorem as Quotient
 use Rattle.session.proofs.Theorem as Session
@@ -20,6 +21,7 @@ promises =
       degree-one = Pair.degree-one;
       group-by-group = Session.group-by-group;
       back-again = Session.back-again;
+      prime-test-is-exact = Modular.prime-test-is-exact;
       residues-are-a-ring = Quotient.residues-are-a-ring;
       modulus-vanishes = Quotient.modulus-vanishes;
       product-is-remainder = Quotient.product-is-remainder;

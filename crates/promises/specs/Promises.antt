@@ -8,6 +8,7 @@
 use Rattle.answer.specs.Theorem.{LongInput}
 use Rattle.card.specs.Theorem.{WrittenReadsBack, ReadIsWritten, LongestCard}
 use Rattle.finder.specs.Theorem.{Demand3Theorem}
+use Rattle.modular.specs.Prime.{PrimeTestIsExact}
 use Rattle.pair.specs.Theorem.{CheckerTheorem, DegreeOne}
 use Rattle.quotient.specs.DivisorTest.{DivisorTestIsExact}
 use Rattle.quotient.specs.Theorem.{ResiduesAreARing, ModulusVanishes, ProductIsRemainder, SubstitutionIsSum, SubstitutionPreserves, ResiduesAreListed, NonZeroIsUnit, PowerOfUnit, IrreducibleDivisor, FrobeniusIsLinear}
@@ -29,7 +30,9 @@ pub record Promises : Type 0 where
   pub degree-one : DegreeOne
   pub group-by-group : GroupByGroup
   pub back-again : BackAgain
-  -- the words in which the congruences are said (quotient/specs/Theorem.antt, DivisorTest.antt): residues modulo T, the product, substitution, divisors
+  -- the words in which the congruences are said (modular/specs/Prime.antt, quotient/specs/Theorem.antt, DivisorTest.antt): primes, residues modulo T, the
+  -- product, substitution, divisors
+  pub prime-test-is-exact : PrimeTestIsExact
   pub residues-are-a-ring : ResiduesAreARing
   pub modulus-vanishes : ModulusVanishes
   pub product-is-remainder : ProductIsRemainder
