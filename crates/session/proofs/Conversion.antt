@@ -53,3 +53,5 @@ module _ (x : Held) where
 
   pub back-map : MapOf x (t1Of x) (rOf x)
   back-map = record { is-valid = λ e. maps-valid (x .p) (x .n) _ _ _ _ (paired-valid x Paired (sym e) refl) .1 }
+
+pub ruleset held-maps = (forward-map, back-map)
