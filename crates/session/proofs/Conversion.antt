@@ -10,7 +10,8 @@ use Rattle.held.specs.Held.{View, empty, loaded, paired, view, valid, t1Of, t2O
 use Rattle.held.specs.ViewState.{viewState}
 use Rattle.held.specs.declared.Held.{Held}
 use Rattle.held.specs.declared.State.the-variants.{Paired}
-use Rattle.held.proofs.Contents.{paired-view, paired-valid, maps-valid}
+use Rattle.held.proofs.Contents.{paired-view, paired-valid}
+use Rattle.held.proofs.Valid.{maps-valid}
 use Rattle.table.specs.Table.{converted, tableNumber}
 use Rattle.session.specs.MapOf.{MapOf}
 use Rattle.session.specs.Session.{convertNumber, outputBy}
