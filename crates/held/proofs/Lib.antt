@@ -2,5 +2,6 @@
 mod Accepted
 mod Answer
 mod Calls
+pub mod Valid
 pub mod Contents
 pub mod Theorem

@@ -5,7 +5,7 @@
 --   t1Of x, t2Of x, sOf x, rOf x    the first n words of the arrays of x
 --   view x                      what x counts as: a value with a p, n or coefficient, of those that its state has, that 1, 2 or 4 refuses counts as a
 --                               new one, which is empty
---   newHeld, loadedHeld, pairedHeld    the values that the calls make
+--   newHeld, loadedHeld, pairedHeld    the values that the calls make, with zeros where a list ends or is not held
 --   answer k next taken         number k: the next value where k is 0, else the value taken
 --   load x p n t1 t2            load: empty to loaded; 23, 1 to 4
 --   propose x s r               propose S, R: loaded to paired if the checker accepts; 21, 24, 3, 4, 8

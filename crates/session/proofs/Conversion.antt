@@ -10,7 +10,8 @@ use Rattle.held.specs.Held.{View, empty, loaded, paired, view, valid, t1Of, t2O
 use Rattle.held.specs.ViewState.{viewState}
 use Rattle.held.specs.declared.Held.{Held}
 use Rattle.held.specs.declared.State.the-variants.{Paired}
-use Rattle.held.proofs.Contents.{paired-view, paired-valid, maps-valid}
+use Rattle.held.proofs.Contents.{paired-view, paired-valid}
+use Rattle.held.proofs.Valid.{maps-valid}
 use Rattle.table.specs.Table.{converted, tableNumber}
 use Rattle.session.specs.MapOf.{MapOf}
 use Rattle.session.specs.Session.{convertNumber, outputBy}
@@ -53,3 +54,5 @@ module _ (x : Held) where
 
   pub back-map : MapOf x (t1Of x) (rOf x)
   back-map = record { is-valid = λ e. maps-valid (x .p) (x .n) _ _ _ _ (paired-valid x Paired (sym e) refl) .1 }
+
+pub ruleset held-maps = (forward-map, back-map)

@@ -14,7 +14,7 @@ use Rattle.held.specs.Held.{largestDegree, valid, t1Of, t2Of, sOf, rOf, 
 use Rattle.held.specs.ViewState.{viewState}
 use Rattle.held.specs.declared.Held.{Held}
 use Rattle.held.specs.declared.State.the-variants.{Empty, Loaded, Paired}
-use Rattle.held.proofs.Contents.{valid-degree}
+use Rattle.held.proofs.Valid.{valid-degree}
 
 -- one more list, the first words of an array
 pub words-front : (p : ℕ) (xs ys : List ℕ) (xss : List (List ℕ)) (r others : Bool) → xs ≡ ys → r ≡ (allBelow p xs && others)

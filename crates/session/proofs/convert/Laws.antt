@@ -11,7 +11,8 @@ use Rattle.held.specs.ViewState.{viewState}
 use Rattle.held.specs.declared.Held.{Held}
 use Rattle.held.specs.declared.State.{State}
 use Rattle.held.specs.declared.State.the-variants.{Empty, Loaded, Paired}
-use Rattle.held.proofs.Contents.{empty-view, loaded-view, paired-view, paired-valid, valid-size, front-models}
+use Rattle.held.proofs.Contents.{empty-view, loaded-view, paired-view, paired-valid}
+use Rattle.held.proofs.Valid.{valid-size, front-models}
 use Rattle.table.specs.Table.{converted, tableNumber}
 use Rattle.session.specs.Session.{convertNumber}
 

@@ -2,7 +2,7 @@
 use mathlib.Core.Path.{sym}
 use borrow.Author.Needs.{needs}
 use lib.Seq.{length-take-le}
-use Rattle.held.proofs.Contents.{front-fits, front-models}
+use Rattle.held.proofs.Valid.{front-fits, front-models}
 use Rattle.held.proofs.Calls.{find-fronts}
 use Rattle.held.proofs.find.find_loaded.Statement.{statement}
 use Rattle.held.proofs.find.find_loaded.Tie as tie

@@ -1,6 +1,6 @@
 -- The first n words of the arrays are models.
 use borrow.Author.Needs.{needs}
-use Rattle.held.proofs.Contents.{front-fits, front-models}
+use Rattle.held.proofs.Valid.{front-fits, front-models}
 use Rattle.held.proofs.Calls.{propose-fronts}
 use Rattle.held.proofs.propose.propose_loaded.Statement.{statement}
 use Rattle.held.proofs.propose.propose_loaded.Tie as tie

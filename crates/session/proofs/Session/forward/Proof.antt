@@ -1,11 +1,11 @@
 -- T2 and S are a map of what is held.
 use borrow.Author.Needs.{needs}
-use Rattle.session.proofs.Conversion.{forward-map}
+use Rattle.session.proofs.Conversion.{held-maps}
 use Rattle.session.proofs.Session.forward.Statement.{statement}
 use Rattle.session.proofs.Session.forward.Tie as tie
 
 convert-requires : tie.Need-convert-requires
-convert-requires c κs = search forward-map
+convert-requires c κs = search held-maps
 
 same-length : tie.Need-same-length
 same-length c = search needs

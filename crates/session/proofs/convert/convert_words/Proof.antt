@@ -1,6 +1,6 @@
 -- The first n words of the arrays are lists of n words below p.
 use borrow.Author.Needs.{needs}
-use Rattle.held.proofs.Contents.{valid-size, front-fits}
+use Rattle.held.proofs.Valid.{valid-size, front-fits}
 use Rattle.session.proofs.convert.Laws.{modulus-words, image-words, converts-fronts}
 use Rattle.session.proofs.convert.convert_words.Statement.{statement}
 use Rattle.session.proofs.convert.convert_words.Tie as tie
