@@ -8,11 +8,10 @@ use lib.ListN.{length, take}
 use Rattle.array.specs.Words.{Words, wordBound}
 use Rattle.quotient.specs.Residue.{product, power, substitute}
 use Rattle.quotient.proofs.Operations.{product-words, power-words, substitute-words}
-use Rattle.array.proofs.Words.{words-length}
+use Rattle.array.proofs.Words.{words-length, words-up}
 use Rattle.array.specs.Array.{padded, Holds}
 use Rattle.refusal.specs.Refusal.{refuseSent}
 use Rattle.arithmetic.specs.Calls.{residueNumber}
-use Rattle.array.proofs.Words.{words-length, words-up}
 use Rattle.array.proofs.Padded.{holds-is, front-is}
 use Rattle.arithmetic.proofs.Accepted.{Accepted, accepted}
 

@@ -13,11 +13,11 @@ use lib.ListN.{length, take}
 use lib.Seq.{length-take-le}
 use Rattle.algebra.specs.Lists.{All}
 use Rattle.refusal.specs.Models.{Models}
-use Rattle.refusal.specs.Refusal.{badPrime, badDegree, badWord}
+use Rattle.refusal.specs.Refusal.{badPrime, badDegree, badWord, largestDegree}
 use Rattle.refusal.proofs.Refusal.{Sent, prime-given, degree-given, given-prime, given-degree}
 use Rattle.refusal.proofs.Lists.{below-given, given-below}
 use Rattle.refusal.proofs.TwoModels.{sent-models}
-use Rattle.held.specs.Held.{largestDegree, valid}
+use Rattle.held.specs.Held.{valid}
 
 valid-given : (p n : ℕ) (xss : List (List ℕ)) → valid p n xss ≡ true → (badPrime p ≡ false) × (badDegree n ≡ false) × (badWord p xss ≡ false)
 unfolding valid

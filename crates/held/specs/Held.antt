@@ -1,5 +1,4 @@
 -- What a session holds (document 01, "The session"): "a value: empty, loaded (p, n, T1, T2) or paired (also S, R)".
---   largestDegree               the largest n; each array has as many words
 --   View                        what a value counts as
 --   valid p n xss               1, 2 and 4 refuse neither p nor n nor a word of the lists
 --   t1Of x, t2Of x, sOf x, rOf x    the first n words of the arrays of x
@@ -15,16 +14,13 @@ use mathlib.Core.List.{List, [], _∷_}
 use Prim.Native.Nat.{ℕ, zero, suc}
 use lib.ListN.{take, replicate}
 use Rattle.finder.specs.Finder.{findS, findR, refuseFind}
-use Rattle.refusal.specs.Refusal.{refuse, refuseSent, badPrime, badDegree, badLength, badWord}
+use Rattle.refusal.specs.Refusal.{refuse, refuseSent, badPrime, badDegree, badLength, badWord, largestDegree}
 use Rattle.pair.specs.Pair.{refusePair}
 use Rattle.array.specs.Array.{padded}
 use Rattle.held.specs.declared.Held.{Held}
 use Rattle.held.specs.declared.HeldStep.{HeldStep}
 use Rattle.held.specs.declared.State.{State}
 use Rattle.held.specs.declared.State.the-variants.{Empty, Loaded, Paired}
-
-abbrev pub largestDegree : ℕ
-largestDegree = 16
 
 pub data View : Type 0 where
   empty : View

@@ -10,7 +10,8 @@ use Prim.Native.Nat.{ℕ}
 use lib.ListN.{length}
 use Rattle.refusal.specs.Models.{Models}
 use Rattle.pair.specs.Pair.{checkNumber}
-use Rattle.held.specs.Held.{largestDegree, empty, loaded, paired, view, newHeld, loadedHeld, pairedHeld, load, propose, find}
+use Rattle.refusal.specs.Refusal.{largestDegree}
+use Rattle.held.specs.Held.{empty, loaded, paired, view, newHeld, loadedHeld, pairedHeld, load, propose, find}
 use Rattle.held.specs.declared.Held.{Held}
 
 pub data Reached : Held → Type 0 where

@@ -16,7 +16,7 @@ ghost use Rattle.held.specs.Held.{newHeld};
 use array::Word;
 
 // The largest degree: each array has as many words.
-pub const DEGREE: usize = 16;
+pub const DEGREE: usize = refusal::sent::DEGREE as usize;
 
 // Nothing; p, n, T1 and T2; also S and R.
 pub enum State {

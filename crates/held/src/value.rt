@@ -9,7 +9,8 @@ ghost use lib.ListN.{length, take};
 ghost use Rattle.array.specs.Array.{padded};
 ghost use Rattle.refusal.specs.Models.{Models};
 ghost use Rattle.pair.specs.Theorem.{Given};
-ghost use Rattle.held.specs.Held.{largestDegree, loadedHeld, pairedHeld};
+ghost use Rattle.refusal.specs.Refusal.{largestDegree};
+ghost use Rattle.held.specs.Held.{loadedHeld, pairedHeld};
 
 // The first n words of an array.
 pub fn front(xs: &[Word], n: u32) -> &[Word]

@@ -12,9 +12,9 @@ ghost use mathlib.Core.List.{[], _∷_};
 ghost use mathlib.Core.Path.{_≡_};
 ghost use Prim.Native.Nat.{_≤_};
 ghost use lib.ListN.{take};
-ghost use Rattle.refusal.specs.Refusal.{badWord};
+ghost use Rattle.refusal.specs.Refusal.{badWord, largestDegree};
 ghost use Rattle.held.specs.ViewState.{viewState};
-ghost use Rattle.held.specs.Held.{largestDegree, view, valid};
+ghost use Rattle.held.specs.Held.{view, valid};
 
 // Whether 4 refuses none of the first n words of two arrays.
 fn both_below(p: u32, n: u32, a: [Word; DEGREE], b: [Word; DEGREE]) -> bool

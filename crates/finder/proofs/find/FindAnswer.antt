@@ -8,10 +8,9 @@ use Rattle.refusal.specs.Refusal.{refuseSent, written}
 use Rattle.array.specs.Words.{Words, wordBound}
 use Rattle.refusal.proofs.Refusal.{Sent, sent-given, given-sent, sent-stays}
 use Rattle.refusal.proofs.TwoModels.{sent-models}
-use Rattle.array.proofs.Words.{words-length}
+use Rattle.array.proofs.Words.{words-length, words-up}
 use Rattle.array.specs.Array.{padded, Holds}
 use Rattle.refusal.proofs.Written.{output-new, output-old}
-use Rattle.array.proofs.Words.{words-up}
 use Rattle.array.proofs.Padded.{front-is, holds-is}
 use Rattle.finder.specs.Construct.{FoundPair}
 use Rattle.finder.specs.Finder.{findS, findR, refuseFind, findNumber, findOutputS, findOutputR}

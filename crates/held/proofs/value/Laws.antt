@@ -5,7 +5,7 @@ use native.Mathlib.Omega.{arith}
 use lib.ListN.{length}
 use Rattle.array.specs.Words.{Words}
 use Rattle.array.proofs.Words.{words-length}
-use Rattle.held.specs.Held.{largestDegree}
+use Rattle.refusal.specs.Refusal.{largestDegree}
 
 pub words-fit : (p n : ℕ) (u : List ℕ) → Words p n u → n ≤ 16 → length u ≤ largestDegree
 words-fit p n u w h = omega (arith, words-length w)

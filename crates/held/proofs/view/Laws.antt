@@ -7,10 +7,10 @@ use borrow.Author.Tests.{not-true, not-false}
 use Rattle.algebra.specs.Lists.{all}
 use Rattle.array.specs.Words.{allBelow}
 use Rattle.modular.specs.Prime.{isPrime}
-use Rattle.refusal.specs.Refusal.{isDegree, badPrime, badDegree, badWord}
+use Rattle.refusal.specs.Refusal.{isDegree, badPrime, badDegree, badWord, largestDegree}
 use Rattle.refusal.proofs.Refusal.{degree-given}
 use Rattle.refusal.proofs.Tests.{words-next}
-use Rattle.held.specs.Held.{largestDegree, valid, t1Of, t2Of, sOf, rOf, view, viewAs}
+use Rattle.held.specs.Held.{valid, t1Of, t2Of, sOf, rOf, view, viewAs}
 use Rattle.held.specs.ViewState.{viewState}
 use Rattle.held.specs.declared.Held.{Held}
 use Rattle.held.specs.declared.State.the-variants.{Empty, Loaded, Paired}

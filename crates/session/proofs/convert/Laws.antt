@@ -6,7 +6,8 @@ use Prim.Native.Nat.{ℕ, _≤_}
 use lib.ListN.{length, take}
 use Rattle.array.specs.Words.{Words}
 use Rattle.refusal.specs.Models.{Models}
-use Rattle.held.specs.Held.{largestDegree, view, valid}
+use Rattle.refusal.specs.Refusal.{largestDegree}
+use Rattle.held.specs.Held.{view, valid}
 use Rattle.held.specs.ViewState.{viewState}
 use Rattle.held.specs.declared.Held.{Held}
 use Rattle.held.specs.declared.State.{State}
