@@ -1,13 +1,24 @@
-/* FLINT: nmod_poly_compose_mod substitutes; a table is converted by nmod_mat_mul, the matrix of the powers of S times the table. */
+/* FLINT: for each work the call that is fastest at its degree, which from degree 8 is the one with a prepared inverse; a table is converted by
+ * nmod_mat_mul, the table times the matrix of the powers of S. */
 #include "peers.h"
 #include <flint/nmod_mat.h>
 #include <flint/nmod_poly.h>
 
-static nmod_poly_t t1, t2, s, r, x1, x2, value;
-static nmod_mat_t powers, table, image;
-static int started;
+enum { PREPARED_FROM = 8 };
 
-static void set(nmod_poly_t f, const uint16_t *words, uint32_t n, uint32_t p, int monic) {
+typedef struct {
+    nmod_poly_t t1, t2, inverse1, inverse2, s, r, u, v, x1, x2;
+    nmod_mat_t powers;
+} forms;
+
+static forms form[MOST_JOBS];
+static nmod_mat_t table, image;
+static nmod_poly_t value;
+static int right;
+static uint32_t p, n;
+static size_t jobs;
+
+static void set(nmod_poly_t f, const uint16_t *words, int monic) {
     nmod_poly_init(f, p);
     for (uint32_t i = 0; i < n; i++)
         nmod_poly_set_coeff_ui(f, i, words[i]);
@@ -15,54 +26,117 @@ static void set(nmod_poly_t f, const uint16_t *words, uint32_t n, uint32_t p, in
         nmod_poly_set_coeff_ui(f, n, 1);
 }
 
-static void residue_of_x(nmod_poly_t f, const nmod_poly_t t, uint32_t p) {
+static void set_inverse(nmod_poly_t inverse, const nmod_poly_t t) {
+    nmod_poly_init(inverse, p);
+    nmod_poly_reverse(inverse, t, n + 1);
+    nmod_poly_inv_series(inverse, inverse, n + 1);
+}
+
+static void set_residue_of_x(nmod_poly_t f, const nmod_poly_t t) {
     nmod_poly_init(f, p);
     nmod_poly_set_coeff_ui(f, 1, 1);
     nmod_poly_rem(f, f, t);
 }
 
-static void prepare(const job *j) {
-    if (started) {
-        nmod_poly_clear(t1), nmod_poly_clear(t2), nmod_poly_clear(s), nmod_poly_clear(r);
-        nmod_poly_clear(x1), nmod_poly_clear(x2), nmod_poly_clear(value);
-        nmod_mat_clear(powers), nmod_mat_clear(table), nmod_mat_clear(image);
-    }
-    started = 1;
-    set(t1, j->t1, j->n, j->p, 1), set(t2, j->t2, j->n, j->p, 1), set(s, j->s, j->n, j->p, 0), set(r, j->r, j->n, j->p, 0);
-    residue_of_x(x1, t1, j->p), residue_of_x(x2, t2, j->p);
-    nmod_poly_init(value, j->p);
-    slong n = j->n, groups = (slong)(j->words / j->n);
-    nmod_mat_init(powers, n, n, j->p), nmod_mat_init(table, n, groups, j->p), nmod_mat_init(image, n, groups, j->p);
+static void set_powers(forms *f) {
+    nmod_mat_init(f->powers, n, n, p);
     nmod_poly_one(value);
     for (slong k = 0; k < n; k++) {
         for (slong i = 0; i < n; i++)
-            nmod_mat_entry(powers, i, k) = nmod_poly_get_coeff_ui(value, i);
-        nmod_poly_mulmod(value, value, s, t2);
+            nmod_mat_entry(f->powers, k, i) = nmod_poly_get_coeff_ui(value, i);
+        nmod_poly_mulmod(value, value, f->s, f->t2);
     }
+}
+
+static void clear(void) {
+    for (forms *f = form; f < form + jobs; f++) {
+        nmod_poly_clear(f->t1), nmod_poly_clear(f->t2), nmod_poly_clear(f->inverse1), nmod_poly_clear(f->inverse2);
+        nmod_poly_clear(f->s), nmod_poly_clear(f->r), nmod_poly_clear(f->u), nmod_poly_clear(f->v);
+        nmod_poly_clear(f->x1), nmod_poly_clear(f->x2), nmod_mat_clear(f->powers);
+    }
+    if (jobs)
+        nmod_mat_clear(table), nmod_mat_clear(image), nmod_poly_clear(value);
+}
+
+static void prepare(const inputs *in) {
+    clear();
+    p = in->p, n = in->n, jobs = in->jobs;
+    nmod_poly_init(value, p);
+    for (size_t k = 0; k < jobs; k++) {
+        const job *j = &in->job[k];
+        forms *f = &form[k];
+        set(f->t1, j->t1, 1), set(f->t2, j->t2, 1);
+        set(f->s, j->s, 0), set(f->r, j->r, 0), set(f->u, j->u, 0), set(f->v, j->v, 0);
+        set_inverse(f->inverse1, f->t1), set_inverse(f->inverse2, f->t2);
+        set_residue_of_x(f->x1, f->t1), set_residue_of_x(f->x2, f->t2);
+        set_powers(f);
+    }
+    slong groups = (slong)(in->words / n);
+    nmod_mat_init(table, groups, n, p), nmod_mat_init(image, groups, n, p);
     for (slong g = 0; g < groups; g++)
         for (slong i = 0; i < n; i++)
-            nmod_mat_entry(table, i, g) = j->table[g * n + i];
+            nmod_mat_entry(table, g, i) = in->table[g * n + i];
 }
 
-static int check(void) {
-    nmod_poly_compose_mod(value, t1, s, t2);
-    int right = nmod_poly_is_zero(value);
-    nmod_poly_compose_mod(value, t2, r, t1);
+/* value := f(s) modulo t, where f has degree below n. */
+static void evaluate(const nmod_poly_t f, const nmod_poly_t s, const nmod_poly_t t, const nmod_poly_t inverse) {
+    if (n < PREPARED_FROM)
+        nmod_poly_compose_mod(value, f, s, t);
+    else
+        nmod_poly_compose_mod_brent_kung_preinv(value, f, s, t, inverse);
+}
+
+static void check(size_t k) {
+    const forms *f = &form[k];
+    nmod_poly_compose_mod(value, f->t1, f->s, f->t2);
+    right = nmod_poly_is_zero(value);
+    nmod_poly_compose_mod(value, f->t2, f->r, f->t1);
     right &= nmod_poly_is_zero(value);
-    nmod_poly_compose_mod(value, s, r, t1);
-    right &= nmod_poly_equal(value, x1);
-    nmod_poly_compose_mod(value, r, s, t2);
-    return right & nmod_poly_equal(value, x2);
+    evaluate(f->s, f->r, f->t1, f->inverse1);
+    right &= nmod_poly_equal(value, f->x1);
+    evaluate(f->r, f->s, f->t2, f->inverse2);
+    right &= nmod_poly_equal(value, f->x2);
 }
 
-static int convert(void) {
-    nmod_mat_mul(image, powers, table);
+static void convert(size_t k) { nmod_mat_mul(image, table, form[k].powers); }
+
+static void product(size_t k) {
+    const forms *f = &form[k];
+    if (n < PREPARED_FROM)
+        nmod_poly_mulmod(value, f->u, f->v, f->t2);
+    else
+        nmod_poly_mulmod_preinv(value, f->u, f->v, f->t2, f->inverse2);
+}
+
+static void power(size_t k) {
+    const forms *f = &form[k];
+    if (n < PREPARED_FROM)
+        nmod_poly_powmod_ui_binexp(value, f->u, EXPONENT, f->t2);
+    else
+        nmod_poly_powmod_ui_binexp_preinv(value, f->u, EXPONENT, f->t2, f->inverse2);
+}
+
+static void substitute(size_t k) { evaluate(form[k].u, form[k].s, form[k].t2, form[k].inverse2); }
+
+static size_t residue(uint16_t *out) {
+    for (uint32_t i = 0; i < n; i++)
+        out[i] = (uint16_t)nmod_poly_get_coeff_ui(value, i);
+    return n;
+}
+
+static size_t converted(uint16_t *out) {
+    for (slong g = 0; g < image->r; g++)
+        for (slong i = 0; i < n; i++)
+            out[g * n + i] = (uint16_t)nmod_mat_entry(image, g, i);
+    return (size_t)image->r * n;
+}
+
+static size_t accepted(uint16_t *out) {
+    *out = (uint16_t)right;
     return 1;
 }
 
-static int product(void) {
-    nmod_poly_mulmod(value, s, r, t2);
-    return !nmod_poly_is_zero(value);
-}
-
-const peer flint = {"FLINT", prepare, NULL, check, convert, product};
+const peer flint = {"FLINT", prepare, {
+    [CHECK] = {check, accepted}, [CONVERT] = {convert, converted}, [PRODUCT] = {product, residue}, [POWER] = {power, residue},
+    [SUBSTITUTE] = {substitute, residue},
+}};

@@ -1,38 +1,70 @@
-// NTL: CompMod substitutes modulo a prepared modulus.
+// NTL: CompMod substitutes modulo a prepared modulus; a table is converted by mul, the table times the matrix of the powers of S.
 #include "peers.h"
 #include <NTL/lzz_pX.h>
+#include <NTL/mat_lzz_p.h>
 
 using namespace NTL;
 
 namespace {
 
-struct Prepared {
-    zz_pX t1, t2, s, r, x1, x2;
+struct Forms {
+    zz_pX t1, t2, s, r, u, v, x1, x2;
     zz_pXModulus modulus1, modulus2;
+    mat_zz_p powers;
+};
+
+// All that depends on p, made anew for each p.
+struct Prepared {
+    Forms form[MOST_JOBS];
+    mat_zz_p table, image;
+    zz_pX value;
+    bool right;
+    long n;
 };
 
 Prepared *prepared;
 
-zz_pX polynomial(const uint16_t *words, uint32_t n, bool monic) {
+zz_pX polynomial(const uint16_t *words, long n, bool monic) {
     zz_pX f;
-    for (uint32_t i = 0; i < n; i++)
+    for (long i = 0; i < n; i++)
         SetCoeff(f, i, words[i]);
     if (monic)
         SetCoeff(f, n, 1);
     return f;
 }
 
-void prepare(const job *j) {
+mat_zz_p powers_of(const zz_pX &s, const zz_pXModulus &modulus) {
+    long n = deg(modulus);
+    mat_zz_p powers;
+    powers.SetDims(n, n);
+    zz_pX value(1);
+    for (long k = 0; k < n; k++, MulMod(value, value, s, modulus))
+        for (long i = 0; i < n; i++)
+            powers[k][i] = coeff(value, i);
+    return powers;
+}
+
+void prepare(const inputs *in) {
     delete prepared;
-    zz_p::init(j->p);
+    zz_p::init(in->p);
     prepared = new Prepared;
-    Prepared &q = *prepared;
-    q.t1 = polynomial(j->t1, j->n, true), q.t2 = polynomial(j->t2, j->n, true);
-    q.s = polynomial(j->s, j->n, false), q.r = polynomial(j->r, j->n, false);
-    build(q.modulus1, q.t1), build(q.modulus2, q.t2);
+    long n = prepared->n = in->n, groups = in->words / in->n;
     zz_pX x;
-    SetCoeff(x, 1, 1);
-    rem(q.x1, x, q.modulus1), rem(q.x2, x, q.modulus2);
+    SetX(x);
+    for (size_t k = 0; k < in->jobs; k++) {
+        const job &j = in->job[k];
+        Forms &f = prepared->form[k];
+        f.t1 = polynomial(j.t1, n, true), f.t2 = polynomial(j.t2, n, true);
+        f.s = polynomial(j.s, n, false), f.r = polynomial(j.r, n, false);
+        f.u = polynomial(j.u, n, false), f.v = polynomial(j.v, n, false);
+        build(f.modulus1, f.t1), build(f.modulus2, f.t2);
+        rem(f.x1, x, f.modulus1), rem(f.x2, x, f.modulus2);
+        f.powers = powers_of(f.s, f.modulus2);
+    }
+    prepared->table.SetDims(groups, n);
+    for (long g = 0; g < groups; g++)
+        for (long i = 0; i < n; i++)
+            prepared->table[g][i] = in->table[g * n + i];
 }
 
 // T(S) as S^n + t(S): CompMod takes polynomials of degree below n.
@@ -44,22 +76,55 @@ bool is_root(const zz_pX &t, const zz_pX &s, const zz_pXModulus &modulus) {
     return IsZero(low + high);
 }
 
-int check() {
-    const Prepared &q = *prepared;
+void check(size_t k) {
+    const Forms &f = prepared->form[k];
     zz_pX value;
-    bool right = is_root(q.t1, q.s, q.modulus2) && is_root(q.t2, q.r, q.modulus1);
-    CompMod(value, q.s, q.r, q.modulus1);
-    right = right && value == q.x1;
-    CompMod(value, q.r, q.s, q.modulus2);
-    return right && value == q.x2;
+    bool right = is_root(f.t1, f.s, f.modulus2) && is_root(f.t2, f.r, f.modulus1);
+    CompMod(value, f.s, f.r, f.modulus1);
+    right = right && value == f.x1;
+    CompMod(value, f.r, f.s, f.modulus2);
+    prepared->right = right && value == f.x2;
 }
 
-int product() {
-    zz_pX value;
-    MulMod(value, prepared->s, prepared->r, prepared->modulus2);
-    return !IsZero(value);
+void convert(size_t k) { mul(prepared->image, prepared->table, prepared->form[k].powers); }
+
+void product(size_t k) {
+    const Forms &f = prepared->form[k];
+    MulMod(prepared->value, f.u, f.v, f.modulus2);
 }
+
+void power(size_t k) { PowerMod(prepared->value, prepared->form[k].u, long(EXPONENT), prepared->form[k].modulus2); }
+
+void substitute(size_t k) {
+    const Forms &f = prepared->form[k];
+    CompMod(prepared->value, f.u, f.s, f.modulus2);
+}
+
+size_t residue(uint16_t *out) {
+    for (long i = 0; i < prepared->n; i++)
+        out[i] = uint16_t(rep(coeff(prepared->value, i)));
+    return size_t(prepared->n);
+}
+
+size_t converted(uint16_t *out) {
+    long n = prepared->n, groups = prepared->image.NumRows();
+    for (long g = 0; g < groups; g++)
+        for (long i = 0; i < n; i++)
+            out[g * n + i] = uint16_t(rep(prepared->image[g][i]));
+    return size_t(groups * n);
+}
+
+size_t accepted(uint16_t *out) {
+    *out = prepared->right;
+    return 1;
+}
+
+const work none = {nullptr, nullptr};
 
 }
 
-extern "C" const peer ntl = {"NTL", prepare, nullptr, check, nullptr, product};
+extern "C" const peer ntl = {"NTL", prepare, {
+    /* FIND */ none, /* CHECK */ {check, accepted}, /* CONVERT */ {convert, converted}, /* PRODUCT */ {product, residue},
+    /* POWER */ {power, residue}, /* SUBSTITUTE */ {substitute, residue},
+    /* READ */ none, /* WRITE */ none, /* LONG */ none, /* SHORT */ none,
+}};

@@ -1,58 +1,102 @@
-/* PARI: Flx_ffisom finds an isomorphism, Flxq_ffisom_inv its inverse; Flx_Flxq_eval substitutes. */
+/* PARI: Flx_ffisom finds an isomorphism, Flxq_ffisom_inv its inverse; Flx_Flxq_eval substitutes. Its prepared form of a modulus of these degrees
+ * is the modulus itself. */
 #include "peers.h"
 #include <pari/pari.h>
 
 static ulong p;
-static GEN t1, t2, s, r, x;
+static uint32_t n;
+static GEN t1[MOST_JOBS], t2[MOST_JOBS], s[MOST_JOBS], r[MOST_JOBS], u[MOST_JOBS], v[MOST_JOBS], x;
+static pari_sp prepared;
 
-static GEN polynomial(const uint16_t *words, uint32_t n, int monic) {
-    GEN f = cgetg((long)n + 2 + monic, t_VECSMALL);
+/* The last answers; they stay on PARI's stack until the next work begins. */
+static GEN value, back;
+static int right;
+
+static void start(void) {
+    static int started;
+    if (!started++)
+        pari_init(64 << 20, 2);
+}
+
+static GEN polynomial(const uint16_t *words, uint32_t count, int monic) {
+    GEN f = cgetg((long)count + 2 + monic, t_VECSMALL);
     f[1] = 0;
-    for (uint32_t i = 0; i < n; i++)
+    for (uint32_t i = 0; i < count; i++)
         f[2 + i] = words[i];
     if (monic)
-        f[2 + n] = 1;
+        f[2 + count] = 1;
     return Flx_renormalize(f, lg(f));
 }
 
-static void prepare(const job *j) {
-    static int started;
-    if (!started) {
-        pari_init(64 << 20, 2);
-        started = 1;
-    }
+int is_irreducible(uint32_t prime, uint32_t degree, const uint16_t *t) {
+    start();
+    pari_sp before = avma;
+    int answer = Flx_is_irred(polynomial(t, degree, 1), prime);
+    set_avma(before);
+    return answer;
+}
+
+static void prepare(const inputs *in) {
+    start();
     set_avma(pari_mainstack->top);
-    p = j->p;
-    t1 = polynomial(j->t1, j->n, 1);
-    t2 = polynomial(j->t2, j->n, 1);
-    s = polynomial(j->s, j->n, 0);
-    r = polynomial(j->r, j->n, 0);
-    x = polx_Flx(0);
+    p = in->p, n = in->n, x = polx_Flx(0);
+    for (size_t k = 0; k < in->jobs; k++) {
+        const job *j = &in->job[k];
+        t1[k] = polynomial(j->t1, n, 1), t2[k] = polynomial(j->t2, n, 1);
+        s[k] = polynomial(j->s, n, 0), r[k] = polynomial(j->r, n, 0), u[k] = polynomial(j->u, n, 0), v[k] = polynomial(j->v, n, 0);
+    }
+    prepared = avma;
 }
 
-static int find(void) {
-    pari_sp av = avma;
-    GEN found = Flx_ffisom(t1, t2, p);
-    GEN back = Flxq_ffisom_inv(found, t2, p);
-    int right = lg(back) > 2 && lg(found) > 2;
-    set_avma(av);
-    return right;
+static void find(size_t k) {
+    set_avma(prepared);
+    value = Flx_ffisom(t1[k], t2[k], p);
+    back = Flxq_ffisom_inv(value, t2[k], p);
 }
 
-static int check(void) {
-    pari_sp av = avma;
-    GEN x1 = Flx_rem(x, t1, p), x2 = Flx_rem(x, t2, p);
-    int right = lgpol(Flx_Flxq_eval(t1, s, t2, p)) == 0 && lgpol(Flx_Flxq_eval(t2, r, t1, p)) == 0
-                && Flx_equal(Flx_Flxq_eval(s, r, t1, p), x1) && Flx_equal(Flx_Flxq_eval(r, s, t2, p), x2);
-    set_avma(av);
-    return right;
+static void check(size_t k) {
+    set_avma(prepared);
+    right = lgpol(Flx_Flxq_eval(t1[k], s[k], t2[k], p)) == 0 && lgpol(Flx_Flxq_eval(t2[k], r[k], t1[k], p)) == 0
+            && Flx_equal(Flx_Flxq_eval(s[k], r[k], t1[k], p), Flx_rem(x, t1[k], p))
+            && Flx_equal(Flx_Flxq_eval(r[k], s[k], t2[k], p), Flx_rem(x, t2[k], p));
 }
 
-static int product(void) {
-    pari_sp av = avma;
-    int right = lgpol(Flxq_mul(s, r, t2, p)) > 0;
-    set_avma(av);
-    return right;
+static void product(size_t k) {
+    set_avma(prepared);
+    value = Flxq_mul(u[k], v[k], t2[k], p);
 }
 
-const peer pari = {"PARI", prepare, find, check, NULL, product};
+static void power(size_t k) {
+    set_avma(prepared);
+    value = Flxq_powu(u[k], EXPONENT, t2[k], p);
+}
+
+static void substitute(size_t k) {
+    set_avma(prepared);
+    value = Flx_Flxq_eval(u[k], s[k], t2[k], p);
+}
+
+static void list(GEN f, uint16_t *out) {
+    for (uint32_t i = 0; i < n; i++)
+        out[i] = i < lgpol(f) ? (uint16_t)f[2 + i] : 0;
+}
+
+static size_t residue(uint16_t *out) {
+    list(value, out);
+    return n;
+}
+
+static size_t pair(uint16_t *out) {
+    list(value, out), list(back, out + n);
+    return 2 * n;
+}
+
+static size_t accepted(uint16_t *out) {
+    *out = (uint16_t)right;
+    return 1;
+}
+
+const peer pari = {"PARI", prepare, {
+    [FIND] = {find, pair}, [CHECK] = {check, accepted}, [PRODUCT] = {product, residue}, [POWER] = {power, residue},
+    [SUBSTITUTE] = {substitute, residue},
+}};

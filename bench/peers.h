@@ -1,5 +1,5 @@
-/* What the benchmark times beside our calls: the same work by PARI, FLINT, NTL and plain C. Each peer gets its inputs once, in its own
- * form, before the clock starts; lists are constant first. */
+/* What the benchmark times: the same work by our library, PARI, FLINT, NTL and plain C. Each gets the inputs once, in its own form, before the
+ * clock starts. Lists are constant first. */
 #ifndef PEERS_H
 #define PEERS_H
 
@@ -10,28 +10,57 @@
 extern "C" {
 #endif
 
-enum { LARGEST_DEGREE = 16, LARGEST_TABLE = 32768 };
+enum { MOST_JOBS = 16, LARGEST_DEGREE = 16, LARGEST_TABLE = 32768, LARGEST_CARD = 131, CARD_WORDS = 64 };
 
-/* Two models, a pair, and a table of residues. */
+/* What a residue is raised to: the first binary digits of the square root of 2 after its point, about half of them 1. */
+#define EXPONENT 0x6a09e667f3bcc909ull
+
+/* Two models and a pair of theirs, two residues, and the pair card with its coefficients in card order. */
 typedef struct {
-    uint32_t p, n;
-    uint16_t t1[LARGEST_DEGREE], t2[LARGEST_DEGREE], s[LARGEST_DEGREE], r[LARGEST_DEGREE];
-    size_t words;
-    uint16_t table[LARGEST_TABLE];
+    uint16_t t1[LARGEST_DEGREE], t2[LARGEST_DEGREE], s[LARGEST_DEGREE], r[LARGEST_DEGREE], u[LARGEST_DEGREE], v[LARGEST_DEGREE];
+    uint16_t coefficients[CARD_WORDS];
+    uint8_t card[LARGEST_CARD];
 } job;
 
-/* A peer: `prepare` takes a job, the others do its work once; a function that a peer lacks is null. Each returns whether its result
- * passes a test that reads it, so that no work can be left out. */
+/* The inputs of a row: jobs with one p and n, and a table that all of them convert. */
+typedef struct {
+    uint32_t p, n;
+    size_t jobs, words, card_length;
+    job job[MOST_JOBS];
+    uint16_t table[LARGEST_TABLE];
+} inputs;
+
+/* The works and their answers in words:
+ *   FIND        a pair: S, then R
+ *   CHECK       whether the four congruences hold: 1 or 0
+ *   CONVERT     the table's image
+ *   PRODUCT     u·v modulo T2
+ *   POWER       u^EXPONENT modulo T2
+ *   SUBSTITUTE  u(S) modulo T2
+ *   READ        p, n, kind and the 64 words of a card
+ *   WRITE       the bytes of a card
+ *   LONG        u^(2^60) modulo T2
+ *   SHORT       u^(2^12) modulo T2, which takes BETWEEN products fewer */
+enum { FIND, CHECK, CONVERT, PRODUCT, POWER, SUBSTITUTE, READ, WRITE, LONG, SHORT, WORKS };
+enum { BETWEEN = 60 - 12 };
+
+/* `run` does the work of the k-th job and keeps the answer in the peer's own form, where the compiler cannot tell that nobody reads it;
+ * `answer` writes that answer as words and gives their number, 0 if there is none. Both are null where a peer lacks the work. */
+typedef struct {
+    void (*run)(size_t k);
+    size_t (*answer)(uint16_t *words);
+} work;
+
 typedef struct {
     const char *name;
-    void (*prepare)(const job *);
-    int (*find)(void);
-    int (*check)(void);
-    int (*convert)(void);
-    int (*product)(void);
+    void (*prepare)(const inputs *);
+    work works[WORKS];
 } peer;
 
-extern const peer pari, flint, ntl, plain;
+extern const peer ours, pari, flint, ntl, plain, plain_card;
+
+/* PARI's test of X^n + t. */
+int is_irreducible(uint32_t p, uint32_t n, const uint16_t *t);
 
 #ifdef __cplusplus
 }

@@ -1,14 +1,17 @@
-/* Plain C: the product by Horner's rule on u64, the top word reduced in each step and all words at the end; the conversion of a table by
- * the matrix of the powers of S, with sums of products in a u64 and one division for each word. */
+/* Plain C: the product by Horner's rule on u64, the top word reduced in each step and all words at the end; power and substitution by such
+ * products; the conversion of a table by the matrix of the powers of S, with sums of products in a u64 and one division for each word. */
 #include "peers.h"
 #include <string.h>
 
-static uint64_t p, t2[LARGEST_DEGREE], s[LARGEST_DEGREE], r[LARGEST_DEGREE], powers[LARGEST_DEGREE][LARGEST_DEGREE];
-static size_t n, words;
-static uint16_t table[LARGEST_TABLE];
+typedef struct {
+    uint64_t t2[LARGEST_DEGREE], s[LARGEST_DEGREE], u[LARGEST_DEGREE], v[LARGEST_DEGREE], powers[LARGEST_DEGREE][LARGEST_DEGREE];
+} forms;
 
-/* visible from outside, so that no store can be left out */
-uint16_t plain_image[LARGEST_TABLE];
+static uint64_t p;
+static size_t n, words;
+static forms form[MOST_JOBS];
+static uint64_t value[LARGEST_DEGREE];
+static uint16_t table[LARGEST_TABLE], image[LARGEST_TABLE];
 
 static void multiply(const uint64_t *t, const uint64_t *u, const uint64_t *v, uint64_t *out) {
     uint64_t w[LARGEST_DEGREE] = {0};
@@ -22,32 +25,73 @@ static void multiply(const uint64_t *t, const uint64_t *u, const uint64_t *v, ui
         out[i] = w[i] % p;
 }
 
-static void prepare(const job *j) {
-    p = j->p, n = j->n, words = j->words;
+static void widen(const uint16_t *from, uint64_t *to) {
     for (size_t i = 0; i < n; i++)
-        t2[i] = j->t2[i], s[i] = j->s[i], r[i] = j->r[i];
-    memcpy(table, j->table, sizeof table);
-    memset(powers, 0, sizeof powers);
-    powers[0][0] = 1;
-    for (size_t k = 1; k < n; k++)
-        multiply(t2, powers[k - 1], s, powers[k]);
+        to[i] = from[i];
 }
 
-static int product(void) {
-    uint64_t out[LARGEST_DEGREE];
-    multiply(t2, s, r, out);
-    return out[0] < p;
+static void prepare(const inputs *in) {
+    p = in->p, n = in->n, words = in->words;
+    memcpy(table, in->table, sizeof table);
+    memset(form, 0, sizeof form);
+    for (size_t k = 0; k < in->jobs; k++) {
+        const job *j = &in->job[k];
+        forms *f = &form[k];
+        widen(j->t2, f->t2), widen(j->s, f->s), widen(j->u, f->u), widen(j->v, f->v);
+        f->powers[0][0] = 1;
+        for (size_t i = 1; i < n; i++)
+            multiply(f->t2, f->powers[i - 1], f->s, f->powers[i]);
+    }
 }
 
-static int convert(void) {
-    for (size_t g = 0; g + n <= words; g += n)
+static void product(size_t k) { multiply(form[k].t2, form[k].u, form[k].v, value); }
+
+static void raise(size_t k, uint64_t exponent) {
+    const forms *f = &form[k];
+    memcpy(value, f->u, sizeof value);
+    for (int bit = 62 - __builtin_clzll(exponent); bit >= 0; bit--) {
+        multiply(f->t2, value, value, value);
+        if (exponent >> bit & 1)
+            multiply(f->t2, value, f->u, value);
+    }
+}
+
+static void power(size_t k) { raise(k, EXPONENT); }
+static void long_power(size_t k) { raise(k, 1ull << 60); }
+static void short_power(size_t k) { raise(k, 1ull << 12); }
+
+static void substitute(size_t k) {
+    const forms *f = &form[k];
+    memset(value, 0, sizeof value);
+    for (size_t i = n; i-- > 0;) {
+        multiply(f->t2, value, f->s, value);
+        value[0] = (value[0] + f->u[i]) % p;
+    }
+}
+
+static void convert(size_t k) {
+    const forms *f = &form[k];
+    for (size_t g = 0; g < words; g += n)
         for (size_t i = 0; i < n; i++) {
             uint64_t sum = 0;
-            for (size_t k = 0; k < n; k++)
-                sum += powers[k][i] * table[g + k];
-            plain_image[g + i] = (uint16_t)(sum % p);
+            for (size_t j = 0; j < n; j++)
+                sum += f->powers[j][i] * table[g + j];
+            image[g + i] = (uint16_t)(sum % p);
         }
-    return 1;
 }
 
-const peer plain = {"plain C", prepare, NULL, NULL, convert, product};
+static size_t residue(uint16_t *out) {
+    for (size_t i = 0; i < n; i++)
+        out[i] = (uint16_t)value[i];
+    return n;
+}
+
+static size_t converted(uint16_t *out) {
+    memcpy(out, image, words * sizeof *out);
+    return words;
+}
+
+const peer plain = {"plain C", prepare, {
+    [CONVERT] = {convert, converted}, [PRODUCT] = {product, residue}, [POWER] = {power, residue}, [SUBSTITUTE] = {substitute, residue},
+    [LONG] = {long_power, residue}, [SHORT] = {short_power, residue},
+}};

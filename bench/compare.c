@@ -1,0 +1,99 @@
+/* Compares the answers of all who do a work, before anything is timed, and ends the program at the first that differs. A pair found is not
+ * compared with another, as a field has several, but judged: each peer works out the four congruences. */
+#include "rows.h"
+#include "yokebean.h"
+#include <stdarg.h>
+#include <stdio.h>
+#include <stdlib.h>
+#include <string.h>
+
+static const char *const names[WORKS] = {"FIND",  "CHECK", "CONVERT", "product", "power", "substitute", "read a card", "write a card",
+                                         "power", "power"};
+
+static void fail(const inputs *in, int what, size_t k, const char *why, ...) {
+    va_list rest;
+    va_start(rest, why);
+    fprintf(stderr, "%s, p = %u, n = %u, pair %zu: ", names[what], in->p, in->n, k + 1);
+    vfprintf(stderr, why, rest);
+    fprintf(stderr, "\n");
+    va_end(rest);
+    exit(1);
+}
+
+static size_t answer(const inputs *in, const peer *who, int what, size_t k, uint16_t *out) {
+    who->works[what].run(k);
+    size_t count = who->works[what].answer(out);
+    if (!count)
+        fail(in, what, k, "%s: no answer", who->name);
+    return count;
+}
+
+/* Everyone must accept the pairs that `finder` found, or refuse them all if it is null. */
+static void judge(const inputs *in, const peer *finder) {
+    for (size_t i = 0; i < PEERS; i++)
+        if (peers[i]->works[CHECK].run) {
+            peers[i]->prepare(in);
+            for (size_t k = 0; k < in->jobs; k++) {
+                uint16_t accepted;
+                answer(in, peers[i], CHECK, k, &accepted);
+                if (finder && !accepted)
+                    fail(in, CHECK, k, "%s: refuses the pair found by %s", peers[i]->name, finder->name);
+                if (!finder && accepted)
+                    fail(in, CHECK, k, "%s: accepts a pair made wrong", peers[i]->name);
+            }
+        }
+}
+
+static void compare_found(const inputs *in) {
+    static inputs found;
+    for (size_t i = 0; i < PEERS; i++)
+        if (peers[i]->works[FIND].run) {
+            found = *in;
+            peers[i]->prepare(in);
+            for (size_t k = 0; k < in->jobs; k++) {
+                uint16_t pair[2 * LARGEST_DEGREE];
+                answer(in, peers[i], FIND, k, pair);
+                memcpy(found.job[k].s, pair, in->n * sizeof *pair);
+                memcpy(found.job[k].r, pair + in->n, in->n * sizeof *pair);
+            }
+            judge(&found, peers[i]);
+        }
+}
+
+/* Wrong in turn by another constant in S, and by the p-th power of R, which is a root of T2 as R is but does not undo S. */
+static void compare_refused(const inputs *in) {
+    static inputs wrong;
+    wrong = *in;
+    for (size_t k = 0; k < in->jobs; k++) {
+        job *j = &wrong.job[k];
+        if (k % 2)
+            yokebean_power(in->p, in->n, j->t1, in->n, in->job[k].r, in->n, in->p, j->r, in->n);
+        else
+            j->s[0] = (uint16_t)((j->s[0] + 1) % in->p);
+    }
+    judge(&wrong, NULL);
+}
+
+static void compare_words(const inputs *in, int what) {
+    static uint16_t own[LARGEST_TABLE], other[LARGEST_TABLE];
+    ours.prepare(in);
+    for (size_t i = 1; i < PEERS; i++)
+        if (peers[i]->works[what].run) {
+            peers[i]->prepare(in);
+            for (size_t k = 0; k < in->jobs; k++) {
+                size_t count = answer(in, &ours, what, k, own);
+                if (answer(in, peers[i], what, k, other) != count)
+                    fail(in, what, k, "%s: another number of words than ours", peers[i]->name);
+                for (size_t place = 0; place < count; place++)
+                    if (own[place] != other[place])
+                        fail(in, what, k, "%s: word %zu is %u, ours is %u", peers[i]->name, place, other[place], own[place]);
+            }
+        }
+}
+
+void compare(const inputs *in) {
+    compare_found(in);
+    compare_refused(in);
+    for (int what = CONVERT; what < WORKS; what++)
+        compare_words(in, what);
+}

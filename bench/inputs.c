@@ -1,0 +1,66 @@
+/* The inputs of a row: random irreducible moduli, the same in every run, and the pairs that our finder gives for them. */
+#include "rows.h"
+#include "yokebean.h"
+#include <stdio.h>
+#include <stdlib.h>
+#include <string.h>
+
+static uint64_t state;
+
+static uint16_t random_below(uint32_t p) {
+    state ^= state << 13, state ^= state >> 7, state ^= state << 17;
+    return (uint16_t)((state >> 16) % p);
+}
+
+static void random_words(uint32_t p, size_t count, uint16_t *out) {
+    for (size_t i = 0; i < count; i++)
+        out[i] = random_below(p);
+}
+
+static void random_modulus(uint32_t p, uint32_t n, uint16_t *t) {
+    do
+        random_words(p, n, t);
+    while (!is_irreducible(p, n, t));
+}
+
+static int is_new(const inputs *in, const job *j) {
+    for (size_t k = 0; k < in->jobs; k++)
+        if (!memcmp(in->job[k].t1, j->t1, sizeof j->t1) && !memcmp(in->job[k].t2, j->t2, sizeof j->t2))
+            return 0;
+    return 1;
+}
+
+static void complete(inputs *in, job *j) {
+    uint32_t p = in->p, n = in->n;
+    uint16_t *lists[] = {j->t1, j->t2, j->s, j->r};
+    random_words(p, n, j->u), random_words(p, n, j->v);
+    uint32_t number = yokebean_find(p, n, j->t1, n, j->t2, n, j->s, n, j->r, n);
+    for (size_t i = 0; i < 4; i++)
+        memcpy(j->coefficients + i * n, lists[i], n * sizeof *j->coefficients);
+    if (!number)
+        number = yokebean_card_write(p, n, 2, j->coefficients, 4 * n, j->card, in->card_length);
+    if (number) {
+        fprintf(stderr, "p = %u, n = %u: our library refuses irreducible moduli or their card with %u\n", p, n, number);
+        exit(1);
+    }
+}
+
+/* Sixteen different pairs of moduli, or all that there are: a thousand draws meet each of the nine pairs of p = 3, n = 2. */
+void choose(const row *which, inputs *in) {
+    memset(in, 0, sizeof *in);
+    in->p = which->p, in->n = which->n, in->words = which->single ? in->n : LARGEST_TABLE / in->n * in->n;
+    state = 88172645463325252ull + in->p * 32 + in->n;
+    size_t width = 0;
+    while ((in->p - 1) >> width)
+        width++;
+    in->card_length = (24 + 4 * in->n * width + 7) / 8;
+    for (int draws = 0; draws < 1000 && in->jobs < MOST_JOBS; draws++) {
+        job *next = &in->job[in->jobs];
+        random_modulus(in->p, in->n, next->t1), random_modulus(in->p, in->n, next->t2);
+        if (is_new(in, next)) {
+            complete(in, next);
+            in->jobs++;
+        }
+    }
+    random_words(in->p, in->words, in->table);
+}

@@ -1,0 +1,89 @@
+/* Our calls, each as a user makes it: a session holds the pair that converts, all else is passed with each call and tested there. */
+#include "peers.h"
+#include "yokebean.h"
+#include <string.h>
+
+static const inputs *in;
+static uint32_t p, n, number;
+static yokebean_session session[MOST_JOBS];
+static yokebean_card card;
+static uint16_t value[2 * LARGEST_DEGREE], image[LARGEST_TABLE], words[CARD_WORDS];
+static uint8_t bytes[LARGEST_CARD];
+
+static void prepare(const inputs *given) {
+    in = given, p = in->p, n = in->n;
+    for (size_t k = 0; k < in->jobs; k++) {
+        const job *j = &in->job[k];
+        yokebean_step step = yokebean_session_load(yokebean_session_new(), p, n, j->t1, n, j->t2, n);
+        session[k] = yokebean_session_propose(step.session, j->s, n, j->r, n).session;
+    }
+}
+
+static void find(size_t k) {
+    const job *j = &in->job[k];
+    number = yokebean_find(p, n, j->t1, n, j->t2, n, value, n, value + n, n);
+}
+
+static void check(size_t k) {
+    const job *j = &in->job[k];
+    number = yokebean_check(p, n, j->t1, n, j->t2, n, j->s, n, j->r, n);
+}
+
+static void convert(size_t k) { number = yokebean_session_forward(session[k], in->table, in->words, image, in->words).number; }
+
+static void product(size_t k) {
+    const job *j = &in->job[k];
+    number = yokebean_product(p, n, j->t2, n, j->u, n, j->v, n, value, n);
+}
+
+static void raise(size_t k, uint64_t exponent) {
+    const job *j = &in->job[k];
+    number = yokebean_power(p, n, j->t2, n, j->u, n, exponent, value, n);
+}
+
+static void power(size_t k) { raise(k, EXPONENT); }
+static void long_power(size_t k) { raise(k, 1ull << 60); }
+static void short_power(size_t k) { raise(k, 1ull << 12); }
+
+static void substitute(size_t k) {
+    const job *j = &in->job[k];
+    number = yokebean_substitute(p, n, j->t2, n, j->s, n, j->u, n, value, n);
+}
+
+static void read_card(size_t k) {
+    card = yokebean_card_read(in->job[k].card, in->card_length, words, CARD_WORDS);
+    number = card.number;
+}
+
+static void write_card(size_t k) { number = yokebean_card_write(p, n, 2, in->job[k].coefficients, 4 * n, bytes, in->card_length); }
+
+static size_t given(const uint16_t *list, size_t count, uint16_t *out) {
+    memcpy(out, list, count * sizeof *out);
+    return number ? 0 : count;
+}
+
+static size_t accepted(uint16_t *out) {
+    *out = number == 0;
+    return 1;
+}
+
+static size_t pair(uint16_t *out) { return given(value, 2 * n, out); }
+static size_t residue(uint16_t *out) { return given(value, n, out); }
+static size_t table(uint16_t *out) { return given(image, in->words, out); }
+
+static size_t card_read(uint16_t *out) {
+    out[0] = (uint16_t)card.p, out[1] = (uint16_t)card.n, out[2] = (uint16_t)card.kind;
+    return given(words, CARD_WORDS, out + 3) ? 3 + CARD_WORDS : 0;
+}
+
+static size_t card_written(uint16_t *out) {
+    for (size_t i = 0; i < in->card_length; i++)
+        out[i] = bytes[i];
+    return number ? 0 : in->card_length;
+}
+
+const peer ours = {"ours", prepare, {
+    [FIND] = {find, pair}, [CHECK] = {check, accepted}, [CONVERT] = {convert, table}, [PRODUCT] = {product, residue},
+    [POWER] = {power, residue}, [SUBSTITUTE] = {substitute, residue}, [READ] = {read_card, card_read}, [WRITE] = {write_card, card_written},
+    [LONG] = {long_power, residue}, [SHORT] = {short_power, residue},
+}};

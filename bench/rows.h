@@ -1,0 +1,31 @@
+/* The rows of the benchmark's table, and what is done with one: its inputs are chosen, all answers compared, the works timed, the times printed. */
+#ifndef ROWS_H
+#define ROWS_H
+
+#include "peers.h"
+
+/* A work with its p and n. `single`: one residue is converted, and not a full table; `inside`: our product is timed inside a power. */
+typedef struct {
+    const char *name;
+    int work;
+    uint32_t p, n;
+    int single, inside;
+} row;
+
+/* A name with its median and minimum in microseconds. */
+typedef struct {
+    const char *name;
+    double median, minimum;
+} times;
+
+/* Our library comes first. */
+enum { PEERS = 6 };
+extern const peer *const peers[PEERS];
+
+void choose(const row *, inputs *);
+void compare(const inputs *);
+size_t time_row(const row *, const inputs *, times *);
+void print_header(void);
+void print_row(const row *, const times *, size_t);
+
+#endif

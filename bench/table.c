@@ -1,0 +1,43 @@
+/* The table in Markdown: for each row our median and minimum in microseconds, and each peer's with the ratio of our median to the peer's. */
+#include "rows.h"
+#include <stdio.h>
+#include <string.h>
+
+static const char *const columns[] = {"PARI", "FLINT", "NTL", "plain C"};
+enum { COLUMNS = sizeof columns / sizeof *columns, WIDTH = 24 };
+
+/* Three digits that count. */
+static int show(char *out, size_t length, const times *t) {
+    int digits = t->median < 0.1 ? 4 : t->median < 1 ? 3 : t->median < 10 ? 2 : t->median < 100 ? 1 : 0;
+    return snprintf(out, length, "%.*f (%.*f)", digits, t->median, digits, t->minimum);
+}
+
+static void show_ratio(char *out, size_t length, double ratio) {
+    snprintf(out, length, " **%.*f**", ratio < 0.1 ? 3 : ratio < 10 ? 2 : 1, ratio);
+}
+
+void print_header(void) {
+    printf("| %-29s | %-15s |", "work, p, n", ours.name);
+    for (size_t c = 0; c < COLUMNS; c++)
+        printf(" %-*s |", WIDTH, columns[c]);
+    printf("\n|---|---|---|---|---|---|\n");
+}
+
+void print_row(const row *which, const times *all, size_t count) {
+    char cell[64];
+    snprintf(cell, sizeof cell, "%s %u, %u", which->name, which->p, which->n);
+    printf("| %-29s |", cell);
+    show(cell, sizeof cell, &all[0]);
+    printf(" %-15s |", cell);
+    for (size_t c = 0; c < COLUMNS; c++) {
+        *cell = 0;
+        for (size_t i = 1; i < count; i++)
+            if (!strcmp(all[i].name, columns[c])) {
+                int used = show(cell, sizeof cell, &all[i]);
+                show_ratio(cell + used, sizeof cell - (size_t)used, all[0].median / all[i].median);
+            }
+        printf(" %-*s |", WIDTH, cell);
+    }
+    printf("\n");
+    fflush(stdout);
+}
