@@ -1,2 +1,2 @@
 -- The laws on which the proofs of `product` rest.
-mod ProductLoops
+pub mod ProductLoops
