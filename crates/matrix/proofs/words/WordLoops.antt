@@ -1,16 +1,16 @@
 -- The loop that writes the words of a product into a list.
 use mathlib.Core.Path.{_≡_, sym, ap, _∙_}
 use mathlib.Core.List.{List, _++_, map, append-nil}
-use Prim.Native.Nat.{ℕ, _+_, _%_, _^_, _≤_, _<_}
+use Prim.Native.Nat.{ℕ, _%_, _^_, _≤_, _<_}
 use native.Mathlib.Nat as Nat
 use native.Mathlib.Omega.{arith}
-use lib.ListN.{length, take, set}
+use lib.ListN.{length, take}
 use lib.Seq.{drop-length}
 use mir.Syntax.{w16}
 use mir.Val.{Fits}
 use Rattle.algebra.specs.Lists.{range}
 use Rattle.array.specs.Words.{Words}
-use Rattle.array.specs.Array.{padded, rowProduct}
+use Rattle.array.specs.Array.{padded}
 use Rattle.array.proofs.Words.{words-length}
 use Rattle.array.proofs.Padded.{front-is}
 use Rattle.array.proofs.Painted.{painted, table, painted-is}

@@ -1,5 +1,4 @@
 -- Both factors have 32 bits, and u's is as it was.
-use borrow.Author.Needs.{needs}
 use Rattle.matrix.proofs.product.ProductLoops.{term-fits, term-is}
 use Rattle.matrix.proofs.product.term.Statement.{statement}
 use Rattle.matrix.proofs.product.term.Tie as tie

@@ -1,6 +1,6 @@
 -- Before turn i the first i words of the product are written.
 use borrow.Author.Needs.{needs}
-use mathlib.Core.Path.{_≡_, refl}
+use mathlib.Core.Path.{_≡_}
 use Prim.Native.Nat.{_-_, _≤_}
 use lib.ListN.{length}
 use Rattle.array.proofs.Painted.{painted, painted-none}
