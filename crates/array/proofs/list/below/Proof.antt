@@ -7,7 +7,7 @@ use lib.Dec.{ltb}
 use lib.ListN.{length, drop}
 use borrow.Author.Needs.{needs}
 use Rattle.array.specs.Words.{allBelow}
-use Rattle.array.proofs.Below.{below-nothing, below-start, below-larger, below-smaller, below-decided}
+use Rattle.array.proofs.Largest.{below-nothing, below-start, below-larger, below-smaller, below-decided}
 use Rattle.array.proofs.list.below.Statement.{statement}
 use Rattle.array.proofs.list.below.Tie as tie
 
