@@ -1,2 +1,2 @@
 -- The laws on which the proofs of `words` rest.
-mod WordLoops
+mod WordLoop

@@ -36,9 +36,6 @@ product-words : (p n : ℕ) (m u : List ℕ) → 0 < p → Words p n (matrixProd
 unfolding matrixProduct
 product-words p n m u h = product-words-from p 0 n m u h
 
-pub words-short : (p n : ℕ) (u : List ℕ) → n ≤ 16 → Words p n u → length u ≤ 16
-words-short p n u h w = rw (words-length w) h
-
 -- the groups
 
 pub record Progress (p n : ℕ) (m table out : List ℕ) (i : ℕ) : Type 0 where

@@ -1,7 +1,7 @@
 -- Before turn j the sum has the first j products, each at most p².
 use borrow.Author.Needs.{needs}
 use Prim.Native.Nat.{_-_, _≤_}
-use Rattle.matrix.proofs.product.ProductLoops.{RowSum, word-low, array-term, sum-fits, sum-few, row-starts, row-turn, array-row}
+use Rattle.matrix.proofs.product.RowLoop.{RowSum, word-low, array-term, sum-fits, sum-few, row-starts, row-turn, array-row}
 use Rattle.matrix.proofs.product.dot.Statement.{statement}
 use Rattle.matrix.proofs.product.dot.Tie as tie
 

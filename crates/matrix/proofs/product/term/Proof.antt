@@ -1,5 +1,5 @@
 -- Both factors have 32 bits, and u's is as it was.
-use Rattle.matrix.proofs.product.ProductLoops.{term-fits, term-is}
+use Rattle.matrix.proofs.product.RowLoop.{term-fits, term-is}
 use Rattle.matrix.proofs.product.term.Statement.{statement}
 use Rattle.matrix.proofs.product.term.Tie as tie
 

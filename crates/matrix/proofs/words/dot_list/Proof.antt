@@ -1,7 +1,7 @@
 -- Before turn j the sum has the first j products, each at most p².
 use borrow.Author.Needs.{needs}
 use Prim.Native.Nat.{_-_, _≤_}
-use Rattle.matrix.proofs.product.ProductLoops.{RowSum, list-place, list-word, list-word-fits, entry-low, list-term, sum-fits, sum-few, row-starts, row-turn, list-row}
+use Rattle.matrix.proofs.product.RowLoop.{RowSum, list-place, list-word, list-word-fits, entry-low, list-term, sum-fits, sum-few, row-starts, row-turn, list-row}
 use Rattle.matrix.proofs.words.dot_list.Statement.{statement}
 use Rattle.matrix.proofs.words.dot_list.Tie as tie
 

@@ -4,8 +4,8 @@ use mathlib.Core.Path.{_≡_}
 use Prim.Native.Nat.{_-_, _≤_}
 use lib.ListN.{length}
 use Rattle.array.proofs.Painted.{painted, painted-none}
-use Rattle.matrix.proofs.product.ProductLoops.{productWord, apply-turn}
-use Rattle.matrix.proofs.words.WordLoops.{word-fits, list-done}
+use Rattle.matrix.proofs.product.ProductLoop.{productWord, apply-turn}
+use Rattle.matrix.proofs.words.WordLoop.{word-fits, list-done}
 use Rattle.matrix.proofs.words.multiply_few.Statement.{statement}
 use Rattle.matrix.proofs.words.multiply_few.Tie as tie
 

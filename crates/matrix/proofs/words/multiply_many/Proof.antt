@@ -3,10 +3,11 @@ use borrow.Author.Needs.{needs}
 use mathlib.Core.Path.{_≡_}
 use Prim.Native.Nat.{_-_, _≤_}
 use lib.ListN.{length, take}
+use Rattle.array.proofs.Words.{words-short}
 use Rattle.array.proofs.Padded.{holds-is}
 use Rattle.array.proofs.Painted.{painted, painted-none}
-use Rattle.matrix.proofs.product.ProductLoops.{productWord, apply-turn}
-use Rattle.matrix.proofs.words.WordLoops.{words-short, word-fits, loaded-done}
+use Rattle.matrix.proofs.product.ProductLoop.{productWord, apply-turn}
+use Rattle.matrix.proofs.words.WordLoop.{word-fits, loaded-done}
 use Rattle.matrix.proofs.words.multiply_many.Statement.{statement}
 use Rattle.matrix.proofs.words.multiply_many.Tie as tie
 

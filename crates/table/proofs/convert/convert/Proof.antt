@@ -1,7 +1,8 @@
 -- The arrays hold T and S, so that the matrix is that of the powers of S.
 use borrow.Author.Needs.{needs}
+use Rattle.array.proofs.Words.{words-short}
 use Rattle.array.proofs.Padded.{holds-is}
-use Rattle.table.proofs.convert.Laws.{words-short, is-square, same-number, converts}
+use Rattle.table.proofs.convert.Laws.{is-square, same-number, converts}
 use Rattle.table.proofs.convert.convert.Statement.{statement}
 use Rattle.table.proofs.convert.convert.Tie as tie
 

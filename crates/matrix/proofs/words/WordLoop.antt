@@ -11,15 +11,11 @@ use mir.Val.{Fits}
 use Rattle.algebra.specs.Lists.{range}
 use Rattle.array.specs.Words.{Words}
 use Rattle.array.specs.Array.{padded}
-use Rattle.array.proofs.Words.{words-length}
 use Rattle.array.proofs.Padded.{front-is}
 use Rattle.array.proofs.Painted.{painted, table, painted-is}
 use Rattle.matrix.specs.Matrix.{matrixProduct}
 use Rattle.matrix.proofs.Filled.{table-range}
-use Rattle.matrix.proofs.product.ProductLoops.{productWord}
-
-pub words-short : (p n : ℕ) (u : List ℕ) → n ≤ 16 → Words p n u → length u ≤ 16
-words-short p n u h w = rw (words-length w) h
+use Rattle.matrix.proofs.product.ProductLoop.{productWord}
 
 pub word-fits : (p r x : ℕ) → 2 ≤ p → p ≤ 2 ^ 16 → r ≡ x % p → Fits w16 r
 word-fits p r x big small e =

@@ -1,7 +1,6 @@
--- The loops of a product: of a row with u, and of the matrix with u.
+-- The loop that multiplies a row with u.
 --   Term p i j m u r      r is the product of word j of row i with word j of u, and at most p²
 --   RowSum p i m u j s    s is the sum of the first j such products
---   productWord p m u i   word i of the product with u
 use mathlib.Core.Path.{_≡_, refl, sym, ap, ap₂, _∙_}
 use mathlib.Core.List.{List, [], _∷_, _++_, append-nil}
 use Prim.Native.Nat.{ℕ, zero, suc, _+_, _-_, _*_, _%_, _^_, _≤_, _<_}
@@ -9,17 +8,14 @@ use native.Mathlib.Nat as Nat
 use native.Mathlib.Decide.{decLt}
 use native.Mathlib.Numerals.{add-one}
 use native.Mathlib.Omega.{arith}
-use lib.ListN.{length, getD, take, set, replicate, length-take}
+use lib.ListN.{length, getD, take, replicate, length-take}
 use lib.Seq.{take-suc, take-all, length-take-le}
 use mir.Syntax.{w64}
 use mir.Val.{Fits}
 use Rattle.array.specs.Words.{Words}
 use Rattle.array.specs.Array.{padded, Holds, entry, Square, rowProduct}
-use Rattle.matrix.specs.Matrix.{matrixProduct}
 use Rattle.array.proofs.Words.{words-length}
 use Rattle.array.proofs.Padded.{holds-word, words-at, array-length}
-use Rattle.array.proofs.Painted.{painted}
-use Rattle.matrix.proofs.Filled.{painted-turn, painted-done}
 
 -- one product
 
@@ -59,7 +55,7 @@ term-of p i j m u r e la lb place turn = record { value = e; small = rw e (Nat.m
 
 module _ (p n i j : ℕ) (m u : List ℕ) (few : p ≤ 2 ^ 20) (short : n ≤ 16) (x : Square p n m) (li : i < n) where
   module _ (y : Holds p n u) where
-    pub array-place : j < 16 → j < length u
+    array-place : j < 16 → j < length u
     array-place l = omega (arith, array-length n u short (y .zeros))
 
     pub word-low : getD u j 0 < 2 ^ 32
@@ -160,18 +156,3 @@ module _ (p i : ℕ) (m u : List ℕ) (j sum : ℕ) (h : RowSum p i m u j sum) w
   array-row n short y l r f =
       whole-row (omega (arith, array-length n u short (y .zeros))) r f
       ∙ ap (λ x. x % p) (ap (rowProduct m i 0) (y .zeros) ∙ row-zeros m i 0 (16 - length (take n u)) (take n u))
-
--- the product of the matrix with u
-
-unfoldable pub productWord : ℕ → List ℕ → List ℕ → ℕ → ℕ
-productWord p m u i = rowProduct m i 0 u % p
-
-pub apply-turn : (p q i r : ℕ) (m u w w′ : List ℕ) → q ≡ p → r ≡ rowProduct m i 0 u % q → w′ ≡ painted w (productWord p m u) i
-    → set w′ i r ≡ painted w (productWord p m u) (i + 1)
-unfolding productWord
-apply-turn p q i r m u w w′ h f e = painted-turn (productWord p m u) i r w w′ (f ∙ ap (λ k. rowProduct m i 0 u % k) h) e
-
-pub apply-done : (p n i : ℕ) (m u w : List ℕ) → n ≤ 16 → i ≤ n → n ≤ i → w ≡ painted (replicate 16 0) (productWord p m u) i
-    → w ≡ padded (matrixProduct p n m u)
-unfolding matrixProduct productWord
-apply-done p n i m u w short l l′ e = painted-done (productWord p m u) n i w short l l′ e
