@@ -3,4 +3,5 @@ pub mod Words
 pub mod Painted
 pub mod Padded
 pub mod Below
+mod Largest
 pub mod Copying

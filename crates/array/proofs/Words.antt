@@ -13,6 +13,10 @@ pub words-length : {p n : ℕ} {u : List ℕ} → Words p n u → length u ≡ n
 words-length none = refl
 words-length (more h w) = ap suc (words-length w)
 
+-- such a list fits an array
+pub words-short : (p n : ℕ) (u : List ℕ) → n ≤ 16 → Words p n u → length u ≤ 16
+words-short p n u h w = rw (words-length w) h
+
 -- two such lists with the same words are equal
 pub words-same : {p n : ℕ} {u v : List ℕ} → Words p n u → Words p n v → ((j : ℕ) → j < n → getD u j 0 ≡ getD v j 0) → u ≡ v
 words-same {u = u} {v = v} a b h = ext-getD 0 u v (words-length a ∙ sym (words-length b)) (λ j g. h j (omega (arith, words-length a)))

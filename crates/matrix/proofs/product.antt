@@ -1,2 +1,3 @@
 -- The laws on which the proofs of `product` rest.
-mod ProductLoops
+pub mod RowLoop
+pub mod ProductLoop

@@ -1,5 +1,7 @@
 // The matrix of u ↦ u(S) on residues: its columns are the powers of S, worked out once for many substitutions.
 //   powers    the matrix, and its columns
 //   product   the product of a matrix with a residue
+//   words     the product of a matrix with a list of words
 pub mod powers;
 pub mod product;
+pub mod words;

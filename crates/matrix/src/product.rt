@@ -1,23 +1,30 @@
 // The product of a matrix with a residue, modulo p.
 ghost use mathlib.Core.Path.{_≡_};
-ghost use Prim.Native.Nat.{_%_, _^_, _≤_, _<_};
+ghost use Prim.Native.Nat.{_*_, _%_, _^_, _≤_, _<_};
 ghost use lib.ListN.{take};
 ghost use Rattle.array.specs.Array.{padded, Holds, Square, rowProduct};
 ghost use Rattle.modular.specs.Barrett.{Reduces};
 ghost use Rattle.matrix.specs.Matrix.{matrixProduct};
 use modular::barrett::Barrett;
-use modular::barrett::times;
 
-// The product of row i with u, modulo p: the sum of sixteen products is reduced once.
-fn dot(d: Barrett, n: usize, m: &[u64; 256], u: &[u64; 16], i: usize) -> u64
+// The low 32 bits of a word of a row times a word of u. After the words of u there are zeros, and what the row holds there does not count.
+fn term(a: u64, b: u64) -> u64
+    requires { ⌜ b < 2 ^ 32 ⌝ }
+    ensures { λ r. ⌜ r ≡ a % 2 ^ 32 * b ⌝ }
+{
+    (a % 4294967296) * (b % 4294967296)
+}
+
+// The product of row i with u, modulo p: the sum of sixteen products is reduced once. With that number in place of n the loop is unrolled.
+pub fn dot(d: Barrett, n: usize, m: &[u64; 256], u: &[u64; 16], i: usize) -> u64
     requires { ⌜ Reduces d × (n ≤ 16) × (i < n) ⌝ }
     requires { ⌜ Square (d .p) n (now m) × Holds (d .p) n (now u) ⌝ }
     ensures { λ r. ⌜ r ≡ rowProduct (now (m .entry)) i 0 (take n (now (u .entry))) % d .p ⌝ }
 {
     let mut sum = 0;
     let mut j = 0;
-    while j < n {
-        sum += times(m[16 * i + j], u[j]);
+    while j < 16 {
+        sum += term(m[16 * i + j], u[j]);
         j += 1;
     }
     d.reduce(sum)

@@ -1,2 +1,3 @@
 -- The laws on which the proofs of `prime` rest.
+mod FirstDivisor
 mod TrialDivision

@@ -5,7 +5,7 @@
 --   converts              the products with the powers of S are the images
 use mathlib.Core.Path.{_≡_, refl, sym, ap, ap₂, _∙_}
 use mathlib.Core.List.{List, _++_, map, append-nil, append-assoc}
-use Prim.Native.Nat.{ℕ, zero, suc, _+_, _-_, _/_, _%_, _^_, _≤_, _<_}
+use Prim.Native.Nat.{ℕ, zero, suc, _+_, _-_, _/_, _%_, _≤_, _<_}
 use native.Mathlib.Nat as Nat
 use native.Mathlib.Decide.{decLt}
 use native.Mathlib.Numerals.{add-one}
@@ -14,10 +14,10 @@ use lib.ListN.{length, take, drop, length-drop, length-append}
 use lib.Seq.{length-take-le, drop-drop, take-at, take-all}
 use borrow.Rule.Slice.PartMut.{putMid, postOf, same-len-mid}
 use Rattle.algebra.specs.Lists.{range}
-use Rattle.array.specs.Words.{Words, none, more, wordBound}
-use Rattle.array.specs.Array.{padded, Holds, Square, rowProduct}
-use Rattle.array.proofs.Words.{words-length, words-up, take-words, drop-words}
-use Rattle.array.proofs.Padded.{holds-is, front-is, take-padded}
+use Rattle.array.specs.Words.{Words, none, more}
+use Rattle.array.specs.Array.{padded, Square, rowProduct}
+use Rattle.array.proofs.Words.{words-length, take-words, drop-words}
+use Rattle.array.proofs.Padded.{front-is}
 use Rattle.matrix.specs.Matrix.{Powers, matrixProduct}
 use Rattle.matrix.proofs.PowerMatrix.{product-substitutes, powers-square}
 use Rattle.quotient.specs.Residue.{substitute}
@@ -35,23 +35,6 @@ product-words-from p i (suc k) m u h = more (Nat.mod-lt _ h) (product-words-from
 product-words : (p n : ℕ) (m u : List ℕ) → 0 < p → Words p n (matrixProduct p n m u)
 unfolding matrixProduct
 product-words p n m u h = product-words-from p 0 n m u h
-
-pub words-short : (p n : ℕ) (u : List ℕ) → n ≤ 16 → Words p n u → length u ≤ 16
-words-short p n u h w = rw (words-length w) h
-
-module _ (p n : ℕ) where
-  pub product-holds : (m u w : List ℕ) → 2 ≤ p → w ≡ padded (matrixProduct p n m u) → Holds p n w
-  product-holds m u w big e = holds-is e (product-words p n m u (omega arith))
-
-  pub store-holds : (k : ℕ) (w : List ℕ) → p ≤ 2 ^ 16 → k ≡ n → Holds p n w → Holds wordBound k w
-  store-holds k w small l h = rw l (record { words = words-up small (h .words); zeros = h .zeros })
-
-  pub group-done : (k : ℕ) (m group u w out : List ℕ) → 2 ≤ p → k ≡ n → Words p n group → u ≡ padded group → w ≡ padded (matrixProduct p n m (take n u)) → out ≡ take k w
-      → out ≡ matrixProduct p n m group
-  group-done k m group u w out big l words e f h =
-      h ∙ ap₂ take l f
-      ∙ take-padded n (matrixProduct p n m (take n u)) (words-length (product-words p n m (take n u) (omega arith)))
-      ∙ ap (matrixProduct p n m) (front-is e words)
 
 -- the groups
 
@@ -150,18 +133,23 @@ pub keeps-length : (p n : ℕ) (m table out₀ out : List ℕ) (i : ℕ) → tab
     → length out ≡ length out₀
 keeps-length p n m table out₀ out i h g = g .lengths ∙ sym (table-given p n table out₀ h .lengths)
 
--- the matrix of the powers of S
+-- the matrix of the powers of S, and the divisor q that is p
 module _ (p n : ℕ) (t s a b m : List ℕ) (big : 2 ≤ p) (wt : Words p n t) (ws : Words p n s) (e : a ≡ padded t) (f : b ≡ padded s)
     (h : Powers p n (take n a) (take n b) m) where
   powers : Powers p n t s m
   powers = rw (front-is e wt, front-is f ws) at h
 
-  pub is-square : Square p n m
-  is-square = powers-square big wt ws powers
+  module _ (q : ℕ) (same : q ≡ p) where
+    pub is-square : Square q n m
+    is-square = rw same (powers-square big wt ws powers)
 
-  pub converts : (table out₀ out : List ℕ) → tableNumber p n table out₀ ≡ 0 → out ≡ eachGroup n (matrixProduct p n m) (length table / n) table
-      → out ≡ converted p n t s table
-  unfolding converted
-  converts table out₀ out g d =
-      d ∙ groups-same (matrixProduct p n m) (substitute p t s) (λ u w. product-substitutes big wt ws powers w) (length table / n) table
-      (table-groups (table-given p n table out₀ g))
+    pub converts : (table out₀ out : List ℕ) → tableNumber p n table out₀ ≡ 0 → out ≡ eachGroup n (matrixProduct q n m) (length table / n) table
+        → out ≡ converted p n t s table
+    unfolding converted
+    converts table out₀ out g d =
+        d ∙ ap (λ k. eachGroup n (matrixProduct k n m) (length table / n) table) same
+        ∙ groups-same (matrixProduct p n m) (substitute p t s) (λ u w. product-substitutes big wt ws powers w) (length table / n) table
+        (table-groups (table-given p n table out₀ g))
+
+pub same-number : (p q n : ℕ) (table out : List ℕ) → q ≡ p → tableNumber p n table out ≡ 0 → tableNumber q n table out ≡ 0
+same-number p q n table out same h = ap (λ k. tableNumber k n table out) same ∙ h

@@ -4,7 +4,7 @@ use mathlib.Core.Path.{_≡_}
 use Prim.Native.Nat.{_-_, _≤_}
 use lib.ListN.{take}
 use Rattle.array.proofs.Painted.{painted, painted-none}
-use Rattle.matrix.proofs.product.ProductLoops.{productWord, apply-turn, apply-done}
+use Rattle.matrix.proofs.product.ProductLoop.{productWord, apply-turn, apply-done}
 use Rattle.matrix.proofs.product.apply.Statement.{statement}
 use Rattle.matrix.proofs.product.apply.Tie as tie
 

@@ -7,10 +7,10 @@ use Rattle.table.proofs.convert.convert_groups.Statement.{statement}
 use Rattle.table.proofs.convert.convert_groups.Tie as tie
 
 abbrev Inv-loop : tie.InvT-loop
-Inv-loop p n m table out₀ i₀ out i = Progress p n m table out i
+Inv-loop d n m table out₀ i₀ out i = Progress (d .p) n m table out i
 
 abbrev μ-loop : tie.MeasureT-loop
-μ-loop p n m table out₀ i₀ out i = length table - i
+μ-loop d n m table out₀ i₀ out i = length table - i
 
 loop-holds : tie.Need-loop-holds Inv-loop μ-loop
 loop-holds c = search starts
@@ -18,32 +18,32 @@ loop-holds c = search starts
 add-e : tie.Need-add-e Inv-loop μ-loop
 add-e c = search needs
 
-mul-convert-group : tie.Need-mul-convert-group Inv-loop μ-loop
-mul-convert-group c = search needs
+mul-multiply : tie.Need-mul-multiply Inv-loop μ-loop
+mul-multiply c = search needs
 
-sub-convert-group : tie.Need-sub-convert-group Inv-loop μ-loop
-sub-convert-group c = search needs
+sub-multiply : tie.Need-sub-multiply Inv-loop μ-loop
+sub-multiply c = search needs
 
-part-convert-group-start : tie.Need-part-convert-group-start Inv-loop μ-loop
-part-convert-group-start c = search needs
+part-multiply-start : tie.Need-part-multiply-start Inv-loop μ-loop
+part-multiply-start c = search needs
 
-part-convert-group-end : tie.Need-part-convert-group-end Inv-loop μ-loop
-part-convert-group-end c = search (group-ends, needs)
+part-multiply-end : tie.Need-part-multiply-end Inv-loop μ-loop
+part-multiply-end c = search (group-ends, needs)
 
-mul-convert-group-2 : tie.Need-mul-convert-group-2 Inv-loop μ-loop
-mul-convert-group-2 c = search needs
+mul-multiply-2 : tie.Need-mul-multiply-2 Inv-loop μ-loop
+mul-multiply-2 c = search needs
 
-sub-convert-group-2 : tie.Need-sub-convert-group-2 Inv-loop μ-loop
-sub-convert-group-2 c = search needs
+sub-multiply-2 : tie.Need-sub-multiply-2 Inv-loop μ-loop
+sub-multiply-2 c = search needs
 
-part-convert-group-start-2 : tie.Need-part-convert-group-start-2 Inv-loop μ-loop
-part-convert-group-start-2 c = search needs
+part-multiply-start-2 : tie.Need-part-multiply-start-2 Inv-loop μ-loop
+part-multiply-start-2 c = search needs
 
-part-convert-group-end-2 : tie.Need-part-convert-group-end-2 Inv-loop μ-loop
-part-convert-group-end-2 c = search (output-ends, needs)
+part-multiply-end-2 : tie.Need-part-multiply-end-2 Inv-loop μ-loop
+part-multiply-end-2 c = search (output-ends, needs)
 
-convert-group-requires : tie.Need-convert-group-requires Inv-loop μ-loop
-convert-group-requires c κs = ((search needs, search needs, search needs, search output-part), (search needs, search part-words))
+multiply-requires : tie.Need-multiply-requires Inv-loop μ-loop
+multiply-requires c κs = ((search needs, search needs, search needs, search output-part), (search needs, search part-words))
 
 loop-less : tie.Need-loop-less Inv-loop μ-loop
 loop-less c = search needs
@@ -65,15 +65,15 @@ convert-groups-spec =
     μ-loop
     loop-holds
     add-e
-    mul-convert-group
-    sub-convert-group
-    part-convert-group-start
-    part-convert-group-end
-    mul-convert-group-2
-    sub-convert-group-2
-    part-convert-group-start-2
-    part-convert-group-end-2
-    convert-group-requires
+    mul-multiply
+    sub-multiply
+    part-multiply-start
+    part-multiply-end
+    mul-multiply-2
+    sub-multiply-2
+    part-multiply-start-2
+    part-multiply-end-2
+    multiply-requires
     loop-less
     loop-again
     same-length

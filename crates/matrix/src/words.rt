@@ -1,0 +1,68 @@
+// The product of a matrix with a list of words, modulo p, into another list: for tables, where the divisor is worked out once for many products.
+ghost use mathlib.Core.Path.{_≡_};
+ghost use Prim.Native.Nat.{_%_, _^_, _≤_, _<_};
+ghost use lib.ListN.{length};
+ghost use Rattle.array.specs.Words.{Words};
+ghost use Rattle.array.specs.Array.{Square, rowProduct};
+ghost use Rattle.modular.specs.Barrett.{Reduces};
+ghost use Rattle.matrix.specs.Matrix.{matrixProduct};
+use crate::product::dot;
+use array::Word;
+use array::copy::load;
+use modular::barrett::Barrett;
+use modular::barrett::times;
+
+// The product of row i with a list of n words, modulo p.
+fn dot_list(d: Barrett, n: usize, m: &[u64; 256], u: &[Word], i: usize) -> u64
+    requires { ⌜ Reduces d × (n ≤ 16) × (i < n) ⌝ }
+    requires { ⌜ Square (d .p) n (now m) × Words (d .p) n (now u) ⌝ }
+    ensures { λ r. ⌜ r ≡ rowProduct (now (m .entry)) i 0 (now (u .entry)) % d .p ⌝ }
+{
+    let mut sum = 0;
+    let mut j = 0;
+    while j < n {
+        sum += times(m[16 * i + j], u[j] as u64);
+        j += 1;
+    }
+    d.reduce(sum)
+}
+
+// The product with few words, which are read from the list for each row.
+fn multiply_few(d: Barrett, n: usize, m: &[u64; 256], u: &[Word], out: &mut [Word])
+    requires { ⌜ Reduces d × (d .p ≤ 2 ^ 16) × (n ≤ 16) × (length (now out) ≡ n) ⌝ }
+    requires { ⌜ Square (d .p) n (now m) × Words (d .p) n (now u) ⌝ }
+    ensures { λ _. ⌜ now (out .exit) ≡ matrixProduct (d .p) n (now (m .entry)) (now (u .entry)) ⌝ }
+{
+    let mut i = 0;
+    while i < n {
+        out[i] = dot_list(d, n, m, u, i) as Word;
+        i += 1;
+    }
+}
+
+// The product with many words, which are loaded once for all rows.
+fn multiply_many(d: Barrett, n: usize, m: &[u64; 256], u: &[Word], out: &mut [Word])
+    requires { ⌜ Reduces d × (d .p ≤ 2 ^ 16) × (n ≤ 16) × (length (now out) ≡ n) ⌝ }
+    requires { ⌜ Square (d .p) n (now m) × Words (d .p) n (now u) ⌝ }
+    ensures { λ _. ⌜ now (out .exit) ≡ matrixProduct (d .p) n (now (m .entry)) (now (u .entry)) ⌝ }
+{
+    let loaded = load(u);
+    let mut i = 0;
+    while i < n {
+        out[i] = dot(d, n, m, &loaded, i) as Word;
+        i += 1;
+    }
+}
+
+// The product of a matrix with the n words of u.
+pub fn multiply(d: Barrett, n: usize, m: &[u64; 256], u: &[Word], out: &mut [Word])
+    requires { ⌜ Reduces d × (d .p ≤ 2 ^ 16) × (n ≤ 16) × (length (now out) ≡ n) ⌝ }
+    requires { ⌜ Square (d .p) n (now m) × Words (d .p) n (now u) ⌝ }
+    ensures { λ _. ⌜ now (out .exit) ≡ matrixProduct (d .p) n (now (m .entry)) (now (u .entry)) ⌝ }
+{
+    if n < 8 {
+        multiply_few(d, n, m, u, out);
+    } else {
+        multiply_many(d, n, m, u, out);
+    }
+}
