@@ -6,7 +6,7 @@ use modular::word::add;
 ghost use mathlib.Core.Path.{_≡_};
 ghost use Prim.Native.Nat.{_+_, _-_, _*_, _/_, _%_, _^_, _≤_, _<_};
 ghost use lib.ListN.{getD, take, replicate};
-ghost use Rattle.quotient.specs.Residue.{constant, product as productOf, power as powerOf, residueOfX, substitute as substituteOf};
+ghost use Rattle.quotient.specs.Residue.{constant, timesX, product as productOf, power as powerOf, residueOfX, substitute as substituteOf};
 ghost use Rattle.array.specs.Array.{padded, Holds};
 ghost use Rattle.modular.specs.Barrett.{Reduces};
 ghost use Rattle.residue.specs.Delayed.{reduced, Delayed, Stepped};
@@ -56,6 +56,17 @@ fn reduce(d: Barrett, n: usize, w: &mut [u64; 16])
         w[j] = d.reduce(w[j]);
         j += 1;
     }
+}
+
+// X·w modulo T in place of w.
+pub fn times_x(d: Barrett, n: usize, t: &[u64; 16], w: &mut [u64; 16])
+    requires { ⌜ Reduces d × (1 ≤ n) × (n ≤ 16) ⌝ }
+    requires { ⌜ Holds (d .p) n (now t) × Holds (d .p) n (now w) ⌝ }
+    ensures { λ _. ⌜ now (w .exit) ≡ padded (timesX (d .p) (take n (now (t .entry))) (take n (now (w .entry)))) ⌝ }
+{
+    let q = d.p - w[n - 1];
+    step(d.p, n, t, 0, t, q, w);
+    reduce(d, n, w);
 }
 
 // u·v modulo T: the words of the sum are reduced once, at the end.
