@@ -6,7 +6,7 @@ use modular::word::add;
 ghost use mathlib.Core.Path.{_≡_};
 ghost use Prim.Native.Nat.{_+_, _-_, _*_, _/_, _%_, _^_, _≤_, _<_};
 ghost use lib.ListN.{getD, take, replicate};
-ghost use Rattle.quotient.specs.Residue.{constant, timesX, product as productOf, power as powerOf, residueOfX, substitute as substituteOf};
+ghost use Rattle.quotient.specs.Residue.{timesX, product as productOf, power as powerOf, residueOfX, substitute as substituteOf};
 ghost use Rattle.array.specs.Array.{padded, Holds};
 ghost use Rattle.modular.specs.Barrett.{Reduces};
 ghost use Rattle.residue.specs.Delayed.{reduced, Delayed, Stepped};
@@ -69,15 +69,32 @@ pub fn times_x(d: Barrett, n: usize, t: &[u64; 16], w: &mut [u64; 16])
     reduce(d, n, w);
 }
 
-// u·v modulo T: the words of the sum are reduced once, at the end.
+// u·v modulo T into w, which is 0: the words of the sum are reduced once, at the end.
+fn multiply_into(
+    d: Barrett,
+    n: usize,
+    t: &[u64; 16],
+    u: &[u64; 16],
+    v: &[u64; 16],
+    w: &mut [u64; 16],
+)
+    requires { ⌜ Reduces d × (1 ≤ n) × (n ≤ 16) ⌝ }
+    requires { ⌜ Holds (d .p) n (now t) × Holds (d .p) n (now u) × Holds (d .p) n (now v) ⌝ }
+    requires { ⌜ now w ≡ replicate 16 0 ⌝ }
+    ensures { λ _. ⌜ now (w .exit) ≡ padded (productOf (d .p) (take n (now (t .entry))) (take n (now (u .entry))) (take n (now (v .entry)))) ⌝ }
+{
+    accumulate(d, n, t, u, v, w);
+    reduce(d, n, w);
+}
+
+// u·v modulo T.
 pub fn multiply(d: Barrett, n: usize, t: &[u64; 16], u: &[u64; 16], v: &[u64; 16]) -> [u64; 16]
     requires { ⌜ Reduces d × (1 ≤ n) × (n ≤ 16) ⌝ }
     requires { ⌜ Holds (d .p) n (now t) × Holds (d .p) n (now u) × Holds (d .p) n (now v) ⌝ }
     ensures { λ w. ⌜ w ≡ padded (productOf (d .p) (take n (now (t .entry))) (take n (now (u .entry))) (take n (now (v .entry)))) ⌝ }
 {
     let mut w = [0; 16];
-    accumulate(d, n, t, u, v, &mut w);
-    reduce(d, n, &mut w);
+    multiply_into(d, n, t, u, v, &mut w);
     w
 }
 
@@ -88,16 +105,6 @@ pub fn product(p: u64, n: usize, t: &[u64; 16], u: &[u64; 16], v: &[u64; 16]) ->
     ensures { λ r. ⌜ r ≡ padded (productOf p (take n (now (t .entry))) (take n (now (u .entry))) (take n (now (v .entry)))) ⌝ }
 {
     multiply(Barrett::new(p), n, t, u, v)
-}
-
-// The constant 1.
-fn one(n: usize) -> [u64; 16]
-    requires { ⌜ (1 ≤ n) × (n ≤ 16) ⌝ }
-    ensures { λ r. ⌜ r ≡ padded (constant n 1) ⌝ }
-{
-    let mut w = [0; 16];
-    w[0] = 1;
-    w
 }
 
 // X modulo T.
@@ -115,25 +122,48 @@ pub fn residue_of_x(p: u64, n: usize, t: &[u64; 16]) -> [u64; 16]
     w
 }
 
-// u^e modulo T, from the power to half the exponent.
-fn power_by_halving(d: Barrett, n: usize, t: &[u64; 16], u: &[u64; 16], e: u64) -> [u64; 16]
+// u^e modulo T into w, which is 0, from the power to half the exponent: its square, and u times that where e is odd.
+fn double(
+    d: Barrett,
+    n: usize,
+    t: &[u64; 16],
+    u: &[u64; 16],
+    half: &[u64; 16],
+    e: u64,
+    w: &mut [u64; 16],
+)
+    requires { ⌜ Reduces d × (1 ≤ n) × (n ≤ 16) ⌝ }
+    requires { ⌜ Holds (d .p) n (now t) × Holds (d .p) n (now u) × (now half ≡ padded (powerOf (d .p) (take n (now t)) (take n (now u)) (e / 2))) ⌝ }
+    requires { ⌜ now w ≡ replicate 16 0 ⌝ }
+    ensures { λ _. ⌜ now (w .exit) ≡ padded (powerOf (d .p) (take n (now (t .entry))) (take n (now (u .entry))) e) ⌝ }
+{
+    if e % 2 == 0 {
+        multiply_into(d, n, t, half, half, w);
+        return;
+    }
+    let mut square = [0; 16];
+    multiply_into(d, n, t, half, half, &mut square);
+    multiply_into(d, n, t, u, &square, w);
+}
+
+// u^e modulo T into w, which is 0.
+fn power_by_halving(d: Barrett, n: usize, t: &[u64; 16], u: &[u64; 16], e: u64, w: &mut [u64; 16])
     requires { ⌜ Reduces d × (1 ≤ n) × (n ≤ 16) ⌝ }
     requires { ⌜ Holds (d .p) n (now t) × Holds (d .p) n (now u) ⌝ }
-    ensures { λ w. ⌜ w ≡ padded (powerOf (d .p) (take n (now (t .entry))) (take n (now (u .entry))) e) ⌝ }
+    requires { ⌜ now w ≡ replicate 16 0 ⌝ }
+    ensures { λ _. ⌜ now (w .exit) ≡ padded (powerOf (d .p) (take n (now (t .entry))) (take n (now (u .entry))) e) ⌝ }
 {
     if e == 0 {
-        return one(n);
+        w[0] = 1;
+        return;
     }
     if e == 1 {
-        return *u;
+        *w = *u;
+        return;
     }
-    let half = power_by_halving(d, n, t, u, e / 2);
-    let square = multiply(d, n, t, &half, &half);
-    if e % 2 == 0 {
-        square
-    } else {
-        multiply(d, n, t, u, &square)
-    }
+    let mut half = [0; 16];
+    power_by_halving(d, n, t, u, e / 2, &mut half);
+    double(d, n, t, u, &half, e, w);
 }
 
 // u^e modulo T.
@@ -142,7 +172,9 @@ pub fn power(p: u64, n: usize, t: &[u64; 16], u: &[u64; 16], e: u64) -> [u64; 16
     requires { ⌜ Holds p n (now t) × Holds p n (now u) ⌝ }
     ensures { λ r. ⌜ r ≡ padded (powerOf p (take n (now (t .entry))) (take n (now (u .entry))) e) ⌝ }
 {
-    power_by_halving(Barrett::new(p), n, t, u, e)
+    let mut w = [0; 16];
+    power_by_halving(Barrett::new(p), n, t, u, e, &mut w);
+    w
 }
 
 // X^e modulo T into w, which is 0, from X^(e / 2): its square, and X times that where e is odd. The words of w are not reduced.
