@@ -5,21 +5,35 @@ use modular::barrett::times;
 use modular::word::add;
 ghost use mathlib.Core.Path.{_≡_};
 ghost use Prim.Native.Nat.{_+_, _-_, _*_, _/_, _%_, _^_, _≤_, _<_};
-ghost use lib.ListN.{getD, take, replicate};
+ghost use mathlib.Core.List.{_∷_};
+ghost use lib.ListN.{length, getD, take, replicate};
 ghost use Rattle.quotient.specs.Residue.{timesX, product as productOf, power as powerOf, residueOfX, substitute as substituteOf};
 ghost use Rattle.array.specs.Array.{padded, Holds};
 ghost use Rattle.modular.specs.Barrett.{Reduces};
 ghost use Rattle.residue.specs.Delayed.{reduced, Delayed, Stepped};
 
+// The word below the top word, which the next step moves to the top; 0 in degree 1.
+fn below_top(n: usize, w: &[u64; 16]) -> u64
+    requires { ⌜ (1 ≤ n) × (n ≤ 16) × (length (now w) ≡ 16) ⌝ }
+    ensures { λ r. ⌜ r ≡ getD (0 ∷ now (w .entry)) (n - 1) 0 ⌝ }
+{
+    if n == 1 {
+        return 0;
+    }
+    w[n - 2]
+}
+
 // One step of Horner's rule: w becomes X·w + c·v. Its top word goes out as q·t, where q is the opposite of the top word modulo p; no other
-// word is reduced.
-fn step(p: u64, n: usize, t: &[u64; 16], c: u64, v: &[u64; 16], q: u64, w: &mut [u64; 16])
+// word is reduced. The new top word is worked out before the others and handed back, because the next step waits for it alone.
+fn step(p: u64, n: usize, t: &[u64; 16], c: u64, v: &[u64; 16], q: u64, w: &mut [u64; 16]) -> u64
     requires { ⌜ (2 ≤ p) × (p ≤ 2 ^ 20) × (1 ≤ n) × (n ≤ 16) × (c < p) ⌝ }
     requires { ⌜ Holds p n (now t) × Holds p n (now v) ⌝ }
     requires { ⌜ (q ≤ 2 * p) × ((q + getD (now w) (n - 1) 0) % p ≡ 0) ⌝ }
     requires { ⌜ Delayed p n 16 (reduced p (take n (now w))) (now w) ⌝ }
     ensures { λ _. ⌜ Stepped p n (take n (now (t .entry))) c (take n (now (v .entry))) (now (w .entry)) (now (w .exit)) ⌝ }
+    ensures { λ top. ⌜ top ≡ getD (now (w .exit)) (n - 1) 0 ⌝ }
 {
+    let top = below_top(n, w) + times(q, t[n - 1]) + times(c, v[n - 1]);
     let mut carry = 0;
     let mut j = 0;
     while j < n {
@@ -28,6 +42,7 @@ fn step(p: u64, n: usize, t: &[u64; 16], c: u64, v: &[u64; 16], q: u64, w: &mut 
         carry = x;
         j += 1;
     }
+    top
 }
 
 // u·v modulo T into w, which is 0, by Horner's rule in u; the words of w are not reduced.
@@ -37,11 +52,12 @@ fn accumulate(d: Barrett, n: usize, t: &[u64; 16], u: &[u64; 16], v: &[u64; 16],
     requires { ⌜ now w ≡ replicate 16 0 ⌝ }
     ensures { λ _. ⌜ Delayed (d .p) n n (productOf (d .p) (take n (now (t .entry))) (take n (now (u .entry))) (take n (now (v .entry)))) (now (w .exit)) ⌝ }
 {
+    let mut q = 0;
     let mut i = n;
     while i > 0 {
         i -= 1;
-        let q = d.opposite(w[n - 1]);
-        step(d.p, n, t, u[i], v, q, w);
+        let top = step(d.p, n, t, u[i], v, q, w);
+        q = d.opposite(top);
     }
 }
 
