@@ -38,7 +38,7 @@ unfolding table
 table-of f [] h = refl
 table-of f (a ∷ l) h = ap₂ _∷_ (h 0 (omega arith)) (table-of (λ k. f (suc k)) l (λ i m. h (suc i) (omega arith)))
 
-words-range : {p n : ℕ} (f : ℕ → ℕ) {u : List ℕ} → Words p n u → ((i : ℕ) → i < n → f i ≡ getD u i 0) → map f (range 0 n) ≡ u
+pub words-range : {p n : ℕ} (f : ℕ → ℕ) {u : List ℕ} → Words p n u → ((i : ℕ) → i < n → f i ≡ getD u i 0) → map f (range 0 n) ≡ u
 words-range {p} {n} f {u} w h =
     let size : length u ≡ n = words-length w in
     sym (table-range f f 0 n (λ k. ap f (sym (Nat.zero-add k)))) ∙ ap (table f) (sym size) ∙ table-of f u (λ i l. h i (rw size at l))

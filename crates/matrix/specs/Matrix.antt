@@ -1,24 +1,35 @@
--- The powers of a residue as the columns of a matrix, and the product of a matrix with a residue.
+-- The powers of a residue S, or its multiples X^k·S, as the columns of a matrix, and the product of a matrix with a residue.
 --   Powers p k t s m        column j of m holds S^j modulo T, for j < k
+--   multiple p t s k        X^k·S modulo T
+--   Multiples p k t s m     column j of m holds X^j·S modulo T, for j < k, and all words of m are below p
 --   Placed n j u m m'       m' is m with the first n words of u in column j
 --   column n m j            the first n words of column j
 --   matrixProduct p n m u   the products of the first n rows with u, modulo p
 use mathlib.Core.Path.{_≡_}
 use mathlib.Core.List.{List, map}
-use Prim.Native.Nat.{ℕ, _%_, _<_}
+use Prim.Native.Nat.{ℕ, zero, suc, _%_, _≤_, _<_}
 use lib.ListN.{length, getD}
 use Rattle.algebra.specs.Lists.{range}
-use Rattle.array.specs.Array.{entry, rowProduct}
-use Rattle.quotient.specs.Residue.{power}
+use Rattle.array.specs.Array.{entry, Square, rowProduct}
+use Rattle.quotient.specs.Residue.{timesX, power}
 
 pub record Powers (p k : ℕ) (t s m : List ℕ) : Type 0 where
   pub size : length m ≡ 256
   pub words : (i j : ℕ) → i < length t → j < k → entry m i j ≡ getD (power p t s j) i 0
 
+unfoldable pub multiple : ℕ → List ℕ → List ℕ → ℕ → List ℕ
+multiple p t s zero = s
+multiple p t s (suc k) = timesX p t (multiple p t s k)
+
+pub record Multiples (p k : ℕ) (t s m : List ℕ) : Type 0 where
+  pub words : (i j : ℕ) → i < length t → j < k → entry m i j ≡ getD (multiple p t s j) i 0
+  pub square : Square p 16 m
+
 pub record Placed (n j : ℕ) (u m m' : List ℕ) : Type 0 where
   pub size : length m' ≡ length m
   pub words : (i : ℕ) → i < n → entry m' i j ≡ getD u i 0
   pub others : (i k : ℕ) → k < 16 → (k ≡ j → ⊥) → entry m' i k ≡ entry m i k
+  pub rest : (i : ℕ) → n ≤ i → entry m' i j ≡ entry m i j
 
 unfoldable pub column : ℕ → List ℕ → ℕ → List ℕ
 column n m j = map (λ i. entry m i j) (range 0 n)

@@ -1,7 +1,9 @@
 // The matrix of u ↦ u(S) on residues: its columns are the powers of S, worked out once for many substitutions.
-//   powers    the matrix, and its columns
-//   product   the product of a matrix with a residue
-//   words     the product of a matrix with a list of words
+//   powers      the matrix, and its columns
+//   multiples   the matrix of u ↦ u·S, by which many powers are worked out
+//   product     the product of a matrix with a residue
+//   words       the product of a matrix with a list of words
+mod multiples;
 pub mod powers;
 pub mod product;
 pub mod words;

@@ -6,11 +6,13 @@ ghost use lib.ListN.{length, take};
 ghost use Rattle.array.specs.Array.{padded, Holds};
 ghost use Rattle.modular.specs.Barrett.{Reduces};
 ghost use Rattle.matrix.specs.Matrix.{Powers, Placed, column as columnOf};
+use crate::multiples::multiples;
+use crate::product::products;
 use modular::barrett::Barrett;
 use residue::ring::multiply;
 
 // Writes the first n words of u into column j.
-fn place(n: usize, j: usize, u: &[u64; 16], m: &mut [u64; 256])
+pub fn place(n: usize, j: usize, u: &[u64; 16], m: &mut [u64; 256])
     requires { ⌜ (n ≤ 16) × (j < 16) × (length (now u) ≡ 16) × (length (now m) ≡ 256) ⌝ }
     ensures { λ _. ⌜ Placed n j (now (u .entry)) (now (m .entry)) (now (m .exit)) ⌝ }
 {
@@ -22,7 +24,7 @@ fn place(n: usize, j: usize, u: &[u64; 16], m: &mut [u64; 256])
 }
 
 // The powers S, …, S^(n−1), by n − 2 products, into a matrix whose column 0 is 1.
-fn higher_powers(d: Barrett, n: usize, t: &[u64; 16], s: &[u64; 16], m: &mut [u64; 256])
+fn few_powers(d: Barrett, n: usize, t: &[u64; 16], s: &[u64; 16], m: &mut [u64; 256])
     requires { ⌜ Reduces d × (2 ≤ n) × (n ≤ 16) ⌝ }
     requires { ⌜ Holds (d .p) n (now t) × Holds (d .p) n (now s) ⌝ }
     requires { ⌜ Powers (d .p) 1 (take n (now t)) (take n (now s)) (now m) ⌝ }
@@ -35,6 +37,39 @@ fn higher_powers(d: Barrett, n: usize, t: &[u64; 16], s: &[u64; 16], m: &mut [u6
         u = multiply(d, n, t, s, &u);
         place(n, j, &u, m);
         j += 1;
+    }
+}
+
+// The same by the matrix of u ↦ u·S.
+fn many_powers(d: Barrett, n: usize, t: &[u64; 16], s: &[u64; 16], m: &mut [u64; 256])
+    requires { ⌜ Reduces d × (2 ≤ n) × (n ≤ 16) ⌝ }
+    requires { ⌜ Holds (d .p) n (now t) × Holds (d .p) n (now s) ⌝ }
+    requires { ⌜ Powers (d .p) 1 (take n (now t)) (take n (now s)) (now m) ⌝ }
+    ensures { λ _. ⌜ Powers (d .p) n (take n (now (t .entry))) (take n (now (s .entry))) (now (m .exit)) ⌝ }
+{
+    let mut by_s = [0; 256];
+    multiples(d, n, t, s, &mut by_s);
+    let mut u = *s;
+    place(n, 1, &u, m);
+    let mut j = 2;
+    while j < n {
+        u = products(d, n, 16, &by_s, &u);
+        place(n, j, &u, m);
+        j += 1;
+    }
+}
+
+// The same by the way that is faster: the matrix of u ↦ u·S is worth its cost from degree 6 on.
+fn higher_powers(d: Barrett, n: usize, t: &[u64; 16], s: &[u64; 16], m: &mut [u64; 256])
+    requires { ⌜ Reduces d × (2 ≤ n) × (n ≤ 16) ⌝ }
+    requires { ⌜ Holds (d .p) n (now t) × Holds (d .p) n (now s) ⌝ }
+    requires { ⌜ Powers (d .p) 1 (take n (now t)) (take n (now s)) (now m) ⌝ }
+    ensures { λ _. ⌜ Powers (d .p) n (take n (now (t .entry))) (take n (now (s .entry))) (now (m .exit)) ⌝ }
+{
+    if n < 6 {
+        few_powers(d, n, t, s, m);
+    } else {
+        many_powers(d, n, t, s, m);
     }
 }
 

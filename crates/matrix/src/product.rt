@@ -30,18 +30,26 @@ pub fn dot(d: Barrett, n: usize, m: &[u64; 256], u: &[u64; 16], i: usize) -> u64
     d.reduce(sum)
 }
 
+// The products of the first n rows with u, modulo p, in k columns.
+pub fn products(d: Barrett, n: usize, k: usize, m: &[u64; 256], u: &[u64; 16]) -> [u64; 16]
+    requires { ⌜ Reduces d × (n ≤ k) × (k ≤ 16) ⌝ }
+    requires { ⌜ Square (d .p) k (now m) × Holds (d .p) k (now u) ⌝ }
+    ensures { λ r. ⌜ r ≡ padded (matrixProduct (d .p) n (now (m .entry)) (take k (now (u .entry)))) ⌝ }
+{
+    let mut w = [0; 16];
+    let mut i = 0;
+    while i < n {
+        w[i] = dot(d, k, m, u, i);
+        i += 1;
+    }
+    w
+}
+
 // The product of a matrix with u, modulo p.
 pub fn apply(p: u64, n: usize, m: &[u64; 256], u: &[u64; 16]) -> [u64; 16]
     requires { ⌜ (2 ≤ p) × (p ≤ 2 ^ 20) × (n ≤ 16) ⌝ }
     requires { ⌜ Square p n (now m) × Holds p n (now u) ⌝ }
     ensures { λ r. ⌜ r ≡ padded (matrixProduct p n (now (m .entry)) (take n (now (u .entry)))) ⌝ }
 {
-    let d = Barrett::new(p);
-    let mut w = [0; 16];
-    let mut i = 0;
-    while i < n {
-        w[i] = dot(d, n, m, u, i);
-        i += 1;
-    }
-    w
+    products(Barrett::new(p), n, n, m, u)
 }

@@ -94,15 +94,18 @@ unfolding power
 power-none p n k t u r z x e =
     e ∙ ap padded (ap (λ m. constant m 1) (sym (words-length (x .words))) ∙ ap (power p (take n t) u) (sym z))
 
+pub power-starts : (p n k : ℕ) (t u w : List ℕ) → k ≡ 0 → 1 ≤ n → n ≤ 16 → Holds p n t → w ≡ replicate 16 0 → set w 0 1 ≡ padded (power p (take n t) u k)
+power-starts p n k t u w z h l x e = power-none p n k t u (set w 0 1) z x (ap (λ v. set v 0 1) e ∙ constant-array n 1 h l)
+
 pub power-self : (p n k : ℕ) (t u : List ℕ) → k ≡ 1 → 2 ≤ p → Holds p n t → Holds p n u → u ≡ padded (power p (take n t) (take n u) k)
 power-self p n k t u e big x y = y .zeros ∙ ap padded (sym (power-one big (x .words) (y .words)) ∙ ap (power p (take n t) (take n u)) (sym e))
 
 pub power-holds : (p n k : ℕ) (t u h : List ℕ) → h ≡ padded (power p (take n t) u k) → 2 ≤ p → Holds p n t → Words p n u → Holds p n h
 power-holds p n k t u h e big x y = holds-is e (power-words big (x .words) y k)
 
-pub square-holds : (p n k : ℕ) (t u h s : List ℕ) → s ≡ padded (product p (take n t) (take n h) (take n h)) → h ≡ padded (power p (take n t) u k)
-    → 2 ≤ p → Holds p n t → Words p n u → Holds p n s
-square-holds p n k t u h s f e big x y = holds-is f (product-words big (x .words) (take n h) (power-holds p n k t u h e big x y .words))
+pub square-holds : (p n k : ℕ) (t u h s : List ℕ) → s ≡ padded (product p (take n t) (take n h) (take n h)) → h ≡ padded (power p (take n t) (take n u) k)
+    → 2 ≤ p → Holds p n t → Holds p n u → Holds p n s
+square-holds p n k t u h s f e big x y = holds-is f (product-words big (x .words) (take n h) (power-holds p n k t (take n u) h e big x (y .words) .words))
 
 pub power-even-array : (p n k : ℕ) (t u h s : List ℕ) → s ≡ padded (product p (take n t) (take n h) (take n h)) → h ≡ padded (power p (take n t) u (k / 2))
     → 2 ≤ p → Holds p n t → Words p n u → k % 2 ≡ 0 → s ≡ padded (power p (take n t) u k)

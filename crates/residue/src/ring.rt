@@ -5,21 +5,35 @@ use modular::barrett::times;
 use modular::word::add;
 ghost use mathlib.Core.Path.{_≡_};
 ghost use Prim.Native.Nat.{_+_, _-_, _*_, _/_, _%_, _^_, _≤_, _<_};
-ghost use lib.ListN.{getD, take, replicate};
-ghost use Rattle.quotient.specs.Residue.{constant, product as productOf, power as powerOf, residueOfX, substitute as substituteOf};
+ghost use mathlib.Core.List.{_∷_};
+ghost use lib.ListN.{length, getD, take, replicate};
+ghost use Rattle.quotient.specs.Residue.{timesX, product as productOf, power as powerOf, residueOfX, substitute as substituteOf};
 ghost use Rattle.array.specs.Array.{padded, Holds};
 ghost use Rattle.modular.specs.Barrett.{Reduces};
 ghost use Rattle.residue.specs.Delayed.{reduced, Delayed, Stepped};
 
+// The word below the top word, which the next step moves to the top; 0 in degree 1.
+fn below_top(n: usize, w: &[u64; 16]) -> u64
+    requires { ⌜ (1 ≤ n) × (n ≤ 16) × (length (now w) ≡ 16) ⌝ }
+    ensures { λ r. ⌜ r ≡ getD (0 ∷ now (w .entry)) (n - 1) 0 ⌝ }
+{
+    if n == 1 {
+        return 0;
+    }
+    w[n - 2]
+}
+
 // One step of Horner's rule: w becomes X·w + c·v. Its top word goes out as q·t, where q is the opposite of the top word modulo p; no other
-// word is reduced.
-fn step(p: u64, n: usize, t: &[u64; 16], c: u64, v: &[u64; 16], q: u64, w: &mut [u64; 16])
+// word is reduced. The new top word is worked out before the others and handed back, because the next step waits for it alone.
+fn step(p: u64, n: usize, t: &[u64; 16], c: u64, v: &[u64; 16], q: u64, w: &mut [u64; 16]) -> u64
     requires { ⌜ (2 ≤ p) × (p ≤ 2 ^ 20) × (1 ≤ n) × (n ≤ 16) × (c < p) ⌝ }
     requires { ⌜ Holds p n (now t) × Holds p n (now v) ⌝ }
     requires { ⌜ (q ≤ 2 * p) × ((q + getD (now w) (n - 1) 0) % p ≡ 0) ⌝ }
     requires { ⌜ Delayed p n 16 (reduced p (take n (now w))) (now w) ⌝ }
     ensures { λ _. ⌜ Stepped p n (take n (now (t .entry))) c (take n (now (v .entry))) (now (w .entry)) (now (w .exit)) ⌝ }
+    ensures { λ top. ⌜ top ≡ getD (now (w .exit)) (n - 1) 0 ⌝ }
 {
+    let top = below_top(n, w) + times(q, t[n - 1]) + times(c, v[n - 1]);
     let mut carry = 0;
     let mut j = 0;
     while j < n {
@@ -28,6 +42,7 @@ fn step(p: u64, n: usize, t: &[u64; 16], c: u64, v: &[u64; 16], q: u64, w: &mut 
         carry = x;
         j += 1;
     }
+    top
 }
 
 // u·v modulo T into w, which is 0, by Horner's rule in u; the words of w are not reduced.
@@ -37,11 +52,12 @@ fn accumulate(d: Barrett, n: usize, t: &[u64; 16], u: &[u64; 16], v: &[u64; 16],
     requires { ⌜ now w ≡ replicate 16 0 ⌝ }
     ensures { λ _. ⌜ Delayed (d .p) n n (productOf (d .p) (take n (now (t .entry))) (take n (now (u .entry))) (take n (now (v .entry)))) (now (w .exit)) ⌝ }
 {
+    let mut q = 0;
     let mut i = n;
     while i > 0 {
         i -= 1;
-        let q = d.opposite(w[n - 1]);
-        step(d.p, n, t, u[i], v, q, w);
+        let top = step(d.p, n, t, u[i], v, q, w);
+        q = d.opposite(top);
     }
 }
 
@@ -58,15 +74,43 @@ fn reduce(d: Barrett, n: usize, w: &mut [u64; 16])
     }
 }
 
-// u·v modulo T: the words of the sum are reduced once, at the end.
+// X·w modulo T in place of w.
+pub fn times_x(d: Barrett, n: usize, t: &[u64; 16], w: &mut [u64; 16])
+    requires { ⌜ Reduces d × (1 ≤ n) × (n ≤ 16) ⌝ }
+    requires { ⌜ Holds (d .p) n (now t) × Holds (d .p) n (now w) ⌝ }
+    ensures { λ _. ⌜ now (w .exit) ≡ padded (timesX (d .p) (take n (now (t .entry))) (take n (now (w .entry)))) ⌝ }
+{
+    let q = d.p - w[n - 1];
+    step(d.p, n, t, 0, t, q, w);
+    reduce(d, n, w);
+}
+
+// u·v modulo T into w, which is 0: the words of the sum are reduced once, at the end.
+fn multiply_into(
+    d: Barrett,
+    n: usize,
+    t: &[u64; 16],
+    u: &[u64; 16],
+    v: &[u64; 16],
+    w: &mut [u64; 16],
+)
+    requires { ⌜ Reduces d × (1 ≤ n) × (n ≤ 16) ⌝ }
+    requires { ⌜ Holds (d .p) n (now t) × Holds (d .p) n (now u) × Holds (d .p) n (now v) ⌝ }
+    requires { ⌜ now w ≡ replicate 16 0 ⌝ }
+    ensures { λ _. ⌜ now (w .exit) ≡ padded (productOf (d .p) (take n (now (t .entry))) (take n (now (u .entry))) (take n (now (v .entry)))) ⌝ }
+{
+    accumulate(d, n, t, u, v, w);
+    reduce(d, n, w);
+}
+
+// u·v modulo T.
 pub fn multiply(d: Barrett, n: usize, t: &[u64; 16], u: &[u64; 16], v: &[u64; 16]) -> [u64; 16]
     requires { ⌜ Reduces d × (1 ≤ n) × (n ≤ 16) ⌝ }
     requires { ⌜ Holds (d .p) n (now t) × Holds (d .p) n (now u) × Holds (d .p) n (now v) ⌝ }
     ensures { λ w. ⌜ w ≡ padded (productOf (d .p) (take n (now (t .entry))) (take n (now (u .entry))) (take n (now (v .entry)))) ⌝ }
 {
     let mut w = [0; 16];
-    accumulate(d, n, t, u, v, &mut w);
-    reduce(d, n, &mut w);
+    multiply_into(d, n, t, u, v, &mut w);
     w
 }
 
@@ -77,16 +121,6 @@ pub fn product(p: u64, n: usize, t: &[u64; 16], u: &[u64; 16], v: &[u64; 16]) ->
     ensures { λ r. ⌜ r ≡ padded (productOf p (take n (now (t .entry))) (take n (now (u .entry))) (take n (now (v .entry)))) ⌝ }
 {
     multiply(Barrett::new(p), n, t, u, v)
-}
-
-// The constant 1.
-fn one(n: usize) -> [u64; 16]
-    requires { ⌜ (1 ≤ n) × (n ≤ 16) ⌝ }
-    ensures { λ r. ⌜ r ≡ padded (constant n 1) ⌝ }
-{
-    let mut w = [0; 16];
-    w[0] = 1;
-    w
 }
 
 // X modulo T.
@@ -104,25 +138,48 @@ pub fn residue_of_x(p: u64, n: usize, t: &[u64; 16]) -> [u64; 16]
     w
 }
 
-// u^e modulo T, from the power to half the exponent.
-fn power_by_halving(d: Barrett, n: usize, t: &[u64; 16], u: &[u64; 16], e: u64) -> [u64; 16]
+// u^e modulo T into w, which is 0, from the power to half the exponent: its square, and u times that where e is odd.
+fn double(
+    d: Barrett,
+    n: usize,
+    t: &[u64; 16],
+    u: &[u64; 16],
+    half: &[u64; 16],
+    e: u64,
+    w: &mut [u64; 16],
+)
+    requires { ⌜ Reduces d × (1 ≤ n) × (n ≤ 16) ⌝ }
+    requires { ⌜ Holds (d .p) n (now t) × Holds (d .p) n (now u) × (now half ≡ padded (powerOf (d .p) (take n (now t)) (take n (now u)) (e / 2))) ⌝ }
+    requires { ⌜ now w ≡ replicate 16 0 ⌝ }
+    ensures { λ _. ⌜ now (w .exit) ≡ padded (powerOf (d .p) (take n (now (t .entry))) (take n (now (u .entry))) e) ⌝ }
+{
+    if e % 2 == 0 {
+        multiply_into(d, n, t, half, half, w);
+        return;
+    }
+    let mut square = [0; 16];
+    multiply_into(d, n, t, half, half, &mut square);
+    multiply_into(d, n, t, u, &square, w);
+}
+
+// u^e modulo T into w, which is 0.
+fn power_by_halving(d: Barrett, n: usize, t: &[u64; 16], u: &[u64; 16], e: u64, w: &mut [u64; 16])
     requires { ⌜ Reduces d × (1 ≤ n) × (n ≤ 16) ⌝ }
     requires { ⌜ Holds (d .p) n (now t) × Holds (d .p) n (now u) ⌝ }
-    ensures { λ w. ⌜ w ≡ padded (powerOf (d .p) (take n (now (t .entry))) (take n (now (u .entry))) e) ⌝ }
+    requires { ⌜ now w ≡ replicate 16 0 ⌝ }
+    ensures { λ _. ⌜ now (w .exit) ≡ padded (powerOf (d .p) (take n (now (t .entry))) (take n (now (u .entry))) e) ⌝ }
 {
     if e == 0 {
-        return one(n);
+        w[0] = 1;
+        return;
     }
     if e == 1 {
-        return *u;
+        *w = *u;
+        return;
     }
-    let half = power_by_halving(d, n, t, u, e / 2);
-    let square = multiply(d, n, t, &half, &half);
-    if e % 2 == 0 {
-        square
-    } else {
-        multiply(d, n, t, u, &square)
-    }
+    let mut half = [0; 16];
+    power_by_halving(d, n, t, u, e / 2, &mut half);
+    double(d, n, t, u, &half, e, w);
 }
 
 // u^e modulo T.
@@ -131,7 +188,9 @@ pub fn power(p: u64, n: usize, t: &[u64; 16], u: &[u64; 16], e: u64) -> [u64; 16
     requires { ⌜ Holds p n (now t) × Holds p n (now u) ⌝ }
     ensures { λ r. ⌜ r ≡ padded (powerOf p (take n (now (t .entry))) (take n (now (u .entry))) e) ⌝ }
 {
-    power_by_halving(Barrett::new(p), n, t, u, e)
+    let mut w = [0; 16];
+    power_by_halving(Barrett::new(p), n, t, u, e, &mut w);
+    w
 }
 
 // X^e modulo T into w, which is 0, from X^(e / 2): its square, and X times that where e is odd. The words of w are not reduced.

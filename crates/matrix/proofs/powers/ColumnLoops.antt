@@ -15,7 +15,7 @@ use Rattle.matrix.proofs.Filled.{painted-turn, painted-done}
 -- writing a column
 
 pub place-starts : (j : ℕ) (u m : List ℕ) → Placed 0 j u m m
-place-starts j u m = record { size = refl; words = λ i l. absurd (omega arith); others = λ i k l other. refl }
+place-starts j u m = record { size = refl; words = λ i l. absurd (omega arith); others = λ i k l other. refl; rest = λ i l. refl }
 
 module _ (n j i : ℕ) (u m m′ : List ℕ) (h : Placed i j u m m′) where
   pub place-turn : i < n → n ≤ 16 → j < 16 → length m ≡ 256 → Placed (i + 1) j u m (set m′ (16 * i + j) (getD u i 0))
@@ -23,6 +23,7 @@ module _ (n j i : ℕ) (u m m′ : List ℕ) (h : Placed i j u m m′) where
     size = length-set m′ (16 * i + j) (getD u i 0) ∙ h .size;
     words = λ k lk. by-place k lk (ℕ-discrete k i);
     others = λ k b lb other. getD-set-other m′ (16 * i + j) (16 * k + b) (getD u i 0) 0 (λ e. other (omega arith)) ∙ h .others k b lb other;
+    rest = λ k lk. getD-set-other m′ (16 * i + j) (16 * k + j) (getD u i 0) 0 (λ e. absurd (omega arith)) ∙ h .rest k (omega arith);
   }
     where
       by-place : (k : ℕ) → k < i + 1 → Dec (k ≡ i) → entry (set m′ (16 * i + j) (getD u i 0)) k j ≡ getD u k 0

@@ -1,19 +1,19 @@
 -- The matrix of the powers of S modulo T: column 0 is 1, column 1 is S, and each further column is S times the column before. Writing column j
 -- leaves the columns before it as they are.
-use mathlib.Core.Path.{_≡_, refl, sym, ap, subst, _∙_}
+use mathlib.Core.Path.{_≡_, refl, ap, subst, _∙_}
 use mathlib.Core.List.{List}
 use Prim.Native.Nat.{ℕ, suc, _+_, _-_, _≤_, _<_}
-use native.Mathlib.Decide.{ℕ-discrete}
 use native.Mathlib.Omega.{arith}
-use lib.ListN.{length, getD, take, set, replicate}
-use lib.Seq.{getD-take}
+use lib.ListN.{length, take, set, replicate}
 use Rattle.array.specs.Words.{Words}
 use Rattle.quotient.specs.Residue.{product, power}
 use Rattle.quotient.proofs.Operations.{power-words}
 use Rattle.array.proofs.Words.{words-length}
-use Rattle.array.specs.Array.{padded, Holds, entry}
-use Rattle.matrix.specs.Matrix.{Powers, Placed}
+use Rattle.array.specs.Array.{padded, Holds}
+use Rattle.matrix.specs.Matrix.{Powers, Multiples, Placed, matrixProduct}
 use Rattle.array.proofs.Padded.{array-length, holds-is, front-is}
+use Rattle.matrix.proofs.Placed.{placed-next}
+use Rattle.matrix.proofs.MultiplicationMatrix.{whole-holds, products-multiply}
 use Rattle.residue.proofs.Power.{constant-array, power-none, power-self}
 
 -- a column more
@@ -22,14 +22,8 @@ powers-next : {p n : ℕ} {t s : List ℕ} (j : ℕ) (u m m′ : List ℕ) → j
     → u ≡ padded (power p t s j) → Powers p (j + 1) t s m′
 powers-next {p} {n} {t} {s} j u m m′ low wt wj h placed e = record {
   size = placed .size ∙ h .size;
-  words = λ i k li lk. by-place i k li lk (ℕ-discrete k j);
+  words = λ i k li. placed-next (power p t s) j u m m′ low wj placed e (λ i k li. h .words i k (rw (words-length wt) li)) i k (rw (words-length wt) at li);
 }
-  where
-    by-place : (i k : ℕ) → i < length t → k < j + 1 → Dec (k ≡ j) → entry m′ i k ≡ getD (power p t s k) i 0
-    by-place i k li lk (yes f) =
-        let l : i < n = rw (words-length wt) at li in
-        ap (entry m′ i) f ∙ placed .words i l ∙ sym (getD-take n u i 0 l) ∙ ap (λ v. getD v i 0) (front-is e wj) ∙ ap (λ b. getD (power p t s b) i 0) (sym f)
-    by-place i k li lk (no other) = placed .others i k (omega arith) other ∙ h .words i k li (omega arith)
 
 -- the same of arrays that hold T and S
 
@@ -76,6 +70,18 @@ module _ (p n : ℕ) (t s : List ℕ) (big : 2 ≤ p) (short : n ≤ 16) (x : Ho
 
     pub powers-turn : (m m′ : List ℕ) → j < n → Powers p j (take n t) (take n s) m → Placed n j u′ m m′ → Powers p (j + 1) (take n t) (take n s) m′
     powers-turn m m′ l h g = powers-next j u′ m m′ (omega arith) (x .words) (words j) h g last-next
+
+-- S·u by the matrix of u ↦ u·S, where u is the last column
+
+module _ (p n j : ℕ) (t s u : List ℕ) (e : u ≡ padded (power p (take n t) (take n s) (j - 1))) (big : 2 ≤ p) (short : n ≤ 16) (x : Holds p n t) (y : Holds p n s) where
+  last-holds : Holds p n u
+  last-holds = holds-is e (words p n t s big short x y (j - 1))
+
+  pub last-whole : Holds p 16 u
+  last-whole = whole-holds p n u big short last-holds
+
+  pub last-product : (r m : List ℕ) → r ≡ padded (matrixProduct p n m (take 16 u)) → Multiples p n (take n t) (take n s) m → r ≡ padded (product p (take n t) (take n s) (take n u))
+  last-product r m f h = products-multiply p n t s m u r big short x y last-holds h f
 
 pub powers-done : (p n j : ℕ) (t s m : List ℕ) → j ≤ n → n ≤ j → Powers p j t s m → Powers p n t s m
 powers-done p n j t s m l l′ h =

@@ -7,10 +7,9 @@ use native.Mathlib.Omega.{arith}
 use lib.ListN.{length, take, set, replicate, length-set, length-replicate}
 use lib.Seq.{set-append-left}
 use Rattle.array.specs.Words.{Words, more}
-use Rattle.quotient.specs.Residue.{sum, constant, timesX, product, power, residueOfX}
-use Rattle.quotient.proofs.Sums.{sum-comm, sum-zero, scale-zero}
+use Rattle.quotient.specs.Residue.{constant, timesX, product, power, residueOfX}
 use Rattle.quotient.proofs.TimesX.{timesX-zeros}
-use Rattle.quotient.proofs.Operations.{constant-words, timesX-words, product-words, residueOfX-words, power-words}
+use Rattle.quotient.proofs.Operations.{timesX-words, product-words, residueOfX-words, power-words}
 use Rattle.array.proofs.Words.{words-length, zeros-words, padded-words, snoc-words}
 use Rattle.quotient.proofs.Ring.{residueModule, mulResidue, xResidue, mul-x}
 use Rattle.array.specs.Array.{padded, Holds}
@@ -18,6 +17,7 @@ use Rattle.array.proofs.Padded.{padded-zeros, front-is}
 use Rattle.residue.specs.Delayed.{Delayed, Stepped}
 use Rattle.residue.proofs.Power.{power-holds, power-even, power-odd}
 use Rattle.residue.proofs.ring.ProductLoop.{delayed-more}
+use Rattle.residue.proofs.ring.TimesX.{zero-times-plus}
 
 -- the product with X is timesX
 product-x : {p n : ℕ} {t u : List ℕ} → 2 ≤ p → Words p n t → Words p n u → product p t (residueOfX p t) u ≡ timesX p t u
@@ -82,8 +82,7 @@ module _ (p n e : ℕ) (t h w : List ℕ) (m : h ≡ padded (power p (take n t) 
       let ws : Words p n square = product-words big (x .words) (take n h) wh in
       let wr : Words p n (timesX p (take n t) square) = timesX-words big (x .words) ws in
       subst (λ s. Delayed p n 17 s w′)
-      (ap (λ s. sum p s (timesX p (take n t) square)) (scale-zero wh)
-      ∙ sum-comm (constant-words n (omega arith)) wr ∙ sum-zero wr
+      (zero-times-plus big wh wr
       ∙ sym (product-x big (x .words) ws)
       ∙ ap (product p (take n t) (residueOfX p (take n t))) (ap₂ (product p (take n t)) half half)
       ∙ power-odd big (x .words) wx e odd)

@@ -1,10 +1,10 @@
 -- The product of two residues with delayed reduction: what holds before the first step, between steps and after the last.
 use mathlib.Core.Path.{_≡_, refl, sym, ap, subst, _∙_}
 use mathlib.Core.List.{List, [], _∷_}
-use Prim.Native.Nat.{ℕ, zero, suc, _+_, _-_, _*_, _≤_, _<_}
+use Prim.Native.Nat.{ℕ, zero, suc, _+_, _-_, _*_, _%_, _≤_, _<_}
 use native.Mathlib.Nat as Nat
 use native.Mathlib.Omega.{arith}
-use lib.ListN.{getD, take, drop, replicate, drop-of-length-le}
+use lib.ListN.{getD, take, drop, replicate, drop-of-length-le, getD-replicate}
 use Rattle.algebra.specs.Lists.{All}
 use Rattle.quotient.specs.Residue.{sum, scale, constant, timesX, product}
 use Rattle.quotient.proofs.Operations.{constant-zero}
@@ -42,6 +42,9 @@ product-starts p n t u v w h x y e =
       zeros = e ∙ padded-zeros n h ∙ ap padded (sym front);
     }
 
+pub zero-opposite : (p n : ℕ) (w : List ℕ) → 1 ≤ n → n ≤ 16 → w ≡ replicate 16 0 → (0 + getD w (n - 1) 0) % p ≡ 0
+zero-opposite p n w some short e = ap (λ l. (0 + getD l (n - 1) 0) % p) e ∙ ap (λ a. (0 + a) % p) (getD-replicate 16 (n - 1) 0 0 (omega arith)) ∙ Nat.zero-mod p
+
 -- a step takes the next word of u
 
 pub next-word : (p n i : ℕ) (u : List ℕ) → 0 < i → i ≤ n → Holds p n u → getD u (i - 1) 0 < p
@@ -58,6 +61,16 @@ product-turn p n i t u v w w′ pos l b y d step =
     let g : n - i + 1 ≡ n - (i - 1) = omega arith in
     let e : next i ≡ rest (i - 1) = ap next f ∙ sym (product-at p n (i - 1) (take n t) u (take n v) (omega arith) (array-fits n u b (y .zeros))) in
     subst (λ j. Delayed p n j (rest (i - 1)) w′) g (subst (λ s. Delayed p n (n - i + 1) s w′) e (step .next (n - i) (rest i) d))
+
+-- the new top word, and its opposite for the next step
+module _ (p n top : ℕ) (w′ : List ℕ) (e : top ≡ getD w′ (n - 1) 0) where
+  pub stepped-top-small : (i c : ℕ) (t s v w : List ℕ) → 1 ≤ n → n ≤ 16 → 0 < i → Delayed p n (n - i) s w → Stepped p n t c v w w′ → top ≤ 64 * (p * p)
+  stepped-top-small i c t s v w some short pos d step =
+      let few : n - i + 1 ≤ 16 = omega arith in
+      omega (arith, e, delayed-word (step .next (n - i) s d) short (n - 1) (omega arith), Nat.mul-le-mul-right (3 * (p * p)) few)
+
+  pub opposite-next : (q : ℕ) → (q + top) % p ≡ 0 → (q + getD w′ (n - 1) 0) % p ≡ 0
+  opposite-next q h = ap (λ a. (q + a) % p) (sym e) ∙ h
 
 pub product-done : (p n i : ℕ) (t u v w : List ℕ) → i ≤ 0 → Delayed p n (n - i) (product p t (drop i u) v) w → Delayed p n n (product p t u v) w
 product-done p n i t u v w h d =

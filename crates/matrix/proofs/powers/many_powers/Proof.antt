@@ -1,4 +1,4 @@
--- Before turn j the matrix has its first j columns, and u is the last of them.
+-- Before turn j the matrix has its first j columns, and u is the last of them; its product with S comes from the matrix of u ↦ u·S.
 use borrow.Author.Needs.{needs}
 use mathlib.Core.Path.{_≡_}
 use Prim.Native.Nat.{_-_, _≤_}
@@ -7,17 +7,19 @@ use Rattle.quotient.specs.Residue.{power}
 use Rattle.array.specs.Array.{padded}
 use Rattle.matrix.specs.Matrix.{Powers}
 use Rattle.array.proofs.Padded.{array-length}
-use Rattle.residue.proofs.Power.{power-holds}
-use Rattle.matrix.proofs.powers.Columns.{last-first, powers-two, last-size, last-turn, powers-turn, powers-done}
-use Rattle.matrix.proofs.powers.higher_powers.Statement.{statement}
-use Rattle.matrix.proofs.powers.higher_powers.Tie as tie
+use Rattle.matrix.proofs.powers.Columns.{last-first, powers-two, last-whole, last-product, last-size, last-turn, powers-turn, powers-done}
+use Rattle.matrix.proofs.powers.many_powers.Statement.{statement}
+use Rattle.matrix.proofs.powers.many_powers.Tie as tie
 
 abbrev Inv-loop : tie.InvT-loop
-Inv-loop d n t s m₀ u₀ j₀ m u j =
+Inv-loop d n t s m₀ by-s u₀ j₀ m u j =
     (2 ≤ j) × (j ≤ n) × (u ≡ padded (power (d .p) (take n t) (take n s) (j - 1))) × Powers (d .p) j (take n t) (take n s) m
 
 abbrev μ-loop : tie.MeasureT-loop
-μ-loop d n t s m₀ u₀ j₀ m u j = n - j
+μ-loop d n t s m₀ by-s u₀ j₀ m u j = n - j
+
+multiples-requires : tie.Need-multiples-requires Inv-loop μ-loop
+multiples-requires c κs = search needs
 
 place-requires : tie.Need-place-requires Inv-loop μ-loop
 place-requires c κs = (search needs, search needs, search array-length, search needs)
@@ -25,11 +27,11 @@ place-requires c κs = (search needs, search needs, search array-length, search 
 loop-holds : tie.Need-loop-holds Inv-loop μ-loop
 loop-holds c = (search needs, search needs, search last-first, search powers-two)
 
-multiply-requires : tie.Need-multiply-requires Inv-loop μ-loop
-multiply-requires c κs = (search needs, (search needs, search needs, search power-holds))
+products-requires : tie.Need-products-requires Inv-loop μ-loop
+products-requires c κs = (search needs, (search needs, search last-whole))
 
 place-requires-2 : tie.Need-place-requires-2 Inv-loop μ-loop
-place-requires-2 c κs = (search needs, search needs, search last-size, search needs)
+place-requires-2 c κs = (search needs, search needs, search (last-size, last-product), search needs)
 
 add-j : tie.Need-add-j Inv-loop μ-loop
 add-j c = search needs
@@ -38,20 +40,21 @@ loop-less : tie.Need-loop-less Inv-loop μ-loop
 loop-less c = search needs
 
 loop-again : tie.Need-loop-again Inv-loop μ-loop
-loop-again c = (search needs, search needs, search last-turn, search powers-turn)
+loop-again c = (search needs, search needs, search (last-turn, last-product), search (powers-turn, last-product))
 
 returns : tie.Need-returns Inv-loop μ-loop
 returns c = search powers-done
 
-pub higher-powers-spec : {M : Type 1} → statement M
-higher-powers-spec =
+pub many-powers-spec : {M : Type 1} → statement M
+many-powers-spec =
     tie.close
     (tie.spec
     Inv-loop
     μ-loop
+    multiples-requires
     place-requires
     loop-holds
-    multiply-requires
+    products-requires
     place-requires-2
     add-j
     loop-less
