@@ -1,5 +1,5 @@
-// The matrix of u ↦ u·S: its columns are S, X·S, X²·S, …, so that u·S is its product with u. It costs about two products, and each product with
-// S a quarter of one after that.
+// The matrix of u ↦ u·S: its columns are S, X·S, X²·S, …, so that u·S is its product with u. It costs two to three products, and then each
+// product with S a third of one.
 ghost use mathlib.Core.Path.{_≡_};
 ghost use Prim.Native.Nat.{_≤_};
 ghost use lib.ListN.{take, replicate};

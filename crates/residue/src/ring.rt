@@ -45,12 +45,21 @@ fn step(p: u64, n: usize, t: &[u64; 16], c: u64, v: &[u64; 16], q: u64, w: &mut 
     top
 }
 
-// u·v modulo T into w, which is 0, by Horner's rule in u; the words of w are not reduced.
-fn accumulate(d: Barrett, n: usize, t: &[u64; 16], u: &[u64; 16], v: &[u64; 16], w: &mut [u64; 16])
+// u·v modulo T into w, which is 0, by Horner's rule in u; the words of w are not reduced. Handed back is the opposite of the top word, for a
+// further step.
+fn accumulate(
+    d: Barrett,
+    n: usize,
+    t: &[u64; 16],
+    u: &[u64; 16],
+    v: &[u64; 16],
+    w: &mut [u64; 16],
+) -> u64
     requires { ⌜ Reduces d × (1 ≤ n) × (n ≤ 16) ⌝ }
     requires { ⌜ Holds (d .p) n (now t) × Holds (d .p) n (now u) × Holds (d .p) n (now v) ⌝ }
     requires { ⌜ now w ≡ replicate 16 0 ⌝ }
     ensures { λ _. ⌜ Delayed (d .p) n n (productOf (d .p) (take n (now (t .entry))) (take n (now (u .entry))) (take n (now (v .entry)))) (now (w .exit)) ⌝ }
+    ensures { λ q. ⌜ (q ≤ 2 * d .p) × ((q + getD (now (w .exit)) (n - 1) 0) % d .p ≡ 0) ⌝ }
 {
     let mut q = 0;
     let mut i = n;
@@ -59,6 +68,7 @@ fn accumulate(d: Barrett, n: usize, t: &[u64; 16], u: &[u64; 16], v: &[u64; 16],
         let top = step(d.p, n, t, u[i], v, q, w);
         q = d.opposite(top);
     }
+    q
 }
 
 // Takes each word of w modulo p.
@@ -200,11 +210,10 @@ fn raise(d: Barrett, n: usize, t: &[u64; 16], half: &[u64; 16], e: u64, w: &mut 
     requires { ⌜ now w ≡ replicate 16 0 ⌝ }
     ensures { λ _. ⌜ Delayed (d .p) n 17 (powerOf (d .p) (take n (now (t .entry))) (residueOfX (d .p) (take n (now (t .entry)))) e) (now (w .exit)) ⌝ }
 {
-    accumulate(d, n, t, half, half, w);
+    let q = accumulate(d, n, t, half, half, w);
     if e % 2 == 0 {
         return;
     }
-    let q = d.opposite(w[n - 1]);
     step(d.p, n, t, 0, half, q, w);
 }
 

@@ -88,9 +88,6 @@ pub delayed-same : {p n k : ℕ} {s w : List ℕ} → Delayed p n k s w → Dela
 delayed-same d = record { words = refl; small = d .small; zeros = d .zeros }
 
 module _ (p n k : ℕ) (s w : List ℕ) (d : Delayed p n k s w) where
-  pub top-small : k ≤ 16 → 1 ≤ n → n ≤ 16 → getD w (n - 1) 0 ≤ 64 * (p * p)
-  top-small h l m = omega (arith, delayed-word d m (n - 1) (omega arith), Nat.mul-le-mul-right (3 * (p * p)) h)
-
   pub step-given : k ≤ 16 → Delayed p n 16 (reduced p (take n w)) w
   step-given h = delayed-same (delayed-more h d)
 

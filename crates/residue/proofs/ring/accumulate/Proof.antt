@@ -43,7 +43,7 @@ loop-again : tie.Need-loop-again Inv-loop μ-loop
 loop-again c = (search needs, search needs, search needs, search opposite-next, search product-turn)
 
 returns : tie.Need-returns Inv-loop μ-loop
-returns c = search product-done
+returns c = (search product-done, search needs)
 
 pub accumulate-spec : {M : Type 1} → statement M
 accumulate-spec =

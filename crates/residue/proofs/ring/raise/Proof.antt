@@ -1,7 +1,7 @@
 -- The square of the power to half the exponent, and a step of Horner's rule with c = 0 for the factor X where the exponent is odd.
 use borrow.Author.Needs.{needs}
 use Rattle.residue.proofs.ring.PowerOfX.{half-holds, raise-even, raise-odd}
-use Rattle.residue.proofs.ring.ProductLoop.{top-small, step-given}
+use Rattle.residue.proofs.ring.ProductLoop.{step-given}
 use Rattle.residue.proofs.ring.raise.Statement.{statement}
 use Rattle.residue.proofs.ring.raise.Tie as tie
 
@@ -10,18 +10,6 @@ accumulate-requires c κs = (search needs, ((search needs, search half-holds, se
 
 returns : tie.Need-returns
 returns c = search raise-even
-
-sub-opposite : tie.Need-sub-opposite
-sub-opposite c = search needs
-
-mul-opposite : tie.Need-mul-opposite
-mul-opposite c = search needs
-
-element-copy-out-opposite : tie.Need-element-copy-out-opposite
-element-copy-out-opposite c = search needs
-
-opposite-requires : tie.Need-opposite-requires
-opposite-requires c κs = (search needs, search top-small)
 
 step-requires : tie.Need-step-requires
 step-requires c κs = (search needs, ((search needs, search half-holds), (search needs, search step-given)))
@@ -35,9 +23,5 @@ raise-spec =
     (tie.spec
     accumulate-requires
     returns
-    sub-opposite
-    mul-opposite
-    element-copy-out-opposite
-    opposite-requires
     step-requires
     returns-2)
