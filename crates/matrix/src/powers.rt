@@ -40,7 +40,7 @@ fn few_powers(d: Barrett, n: usize, t: &[u64; 16], s: &[u64; 16], m: &mut [u64; 
     }
 }
 
-// The same by the matrix of u ↦ u·S.
+// The same by the matrix of u ↦ u·S. All its 16 columns are taken, because a sum of a known number of products is faster.
 fn many_powers(d: Barrett, n: usize, t: &[u64; 16], s: &[u64; 16], m: &mut [u64; 256])
     requires { ⌜ Reduces d × (2 ≤ n) × (n ≤ 16) ⌝ }
     requires { ⌜ Holds (d .p) n (now t) × Holds (d .p) n (now s) ⌝ }
