@@ -5,13 +5,14 @@ use mathlib.Core.List.{List, [], _∷_, _++_, map, append-nil}
 use Prim.Native.Nat.{ℕ, zero, suc, _+_, _-_, _*_, _%_, _≤_, _<_}
 use native.Mathlib.Nat as Nat
 use native.Mathlib.Omega.{arith}
-use lib.ListN.{length, getD, take, replicate, getD-replicate}
+use lib.ListN.{length, getD, take, replicate, getD-replicate, length-map}
 use lib.Seq.{take-length}
 use Rattle.algebra.specs.Lists.{range}
+use Rattle.algebra.proofs.Search.{range-length}
 use Rattle.array.specs.Words.{Words, none, more}
 use Rattle.array.specs.Array.{padded, Holds, entry, rowProduct}
 use Rattle.array.proofs.Words.{words-length, zeros-words, padded-words}
-use Rattle.array.proofs.Padded.{array-length}
+use Rattle.array.proofs.Padded.{array-length, padded-length}
 use Rattle.quotient.specs.Residue.{sum, scale, constant, shift, timesX, product}
 use Rattle.quotient.proofs.Sums.{scale-zero, scale-suc}
 use Rattle.quotient.proofs.TimesX.{timesX-sum, timesX-zeros}
@@ -95,6 +96,11 @@ pub whole-holds : (p n : ℕ) (u : List ℕ) → 2 ≤ p → n ≤ 16 → Holds 
 whole-holds p n u big short y =
     let size : n + (16 - n) ≡ 16 = omega arith in
     record { words = rw (whole-words short y) (rw size at (padded-words (omega arith) (y .words) (16 - n))); zeros = whole-padded short y }
+
+pub products-size : (p n : ℕ) (m u r : List ℕ) → n ≤ 16 → r ≡ padded (matrixProduct p n m u) → length r ≡ 16
+unfolding matrixProduct
+products-size p n m u r short e =
+    ap length e ∙ padded-length _ (omega (arith, length-map (range 0 n) (λ i. rowProduct m i 0 u % p), range-length 0 n))
 
 pub products-multiply : (p n : ℕ) (t s m u r : List ℕ) → 2 ≤ p → n ≤ 16 → Holds p n t → Holds p n s → Holds p n u → Multiples p n (take n t) (take n s) m
     → r ≡ padded (matrixProduct p n m (take 16 u)) → r ≡ padded (product p (take n t) (take n s) (take n u))

@@ -40,7 +40,7 @@ fn few_powers(d: Barrett, n: usize, t: &[u64; 16], s: &[u64; 16], m: &mut [u64; 
     }
 }
 
-// The same by the matrix of u ↦ u·S.
+// The same by the matrix of u ↦ u·S. All its 16 columns are taken, because a sum of a known number of products is faster.
 fn many_powers(d: Barrett, n: usize, t: &[u64; 16], s: &[u64; 16], m: &mut [u64; 256])
     requires { ⌜ Reduces d × (2 ≤ n) × (n ≤ 16) ⌝ }
     requires { ⌜ Holds (d .p) n (now t) × Holds (d .p) n (now s) ⌝ }
@@ -59,14 +59,14 @@ fn many_powers(d: Barrett, n: usize, t: &[u64; 16], s: &[u64; 16], m: &mut [u64;
     }
 }
 
-// The same by the way that is faster: the matrix of u ↦ u·S is worth its cost from degree 9 on.
+// The same by the way that is faster: the matrix of u ↦ u·S is worth its cost from degree 7 on.
 fn higher_powers(d: Barrett, n: usize, t: &[u64; 16], s: &[u64; 16], m: &mut [u64; 256])
     requires { ⌜ Reduces d × (2 ≤ n) × (n ≤ 16) ⌝ }
     requires { ⌜ Holds (d .p) n (now t) × Holds (d .p) n (now s) ⌝ }
     requires { ⌜ Powers (d .p) 1 (take n (now t)) (take n (now s)) (now m) ⌝ }
     ensures { λ _. ⌜ Powers (d .p) n (take n (now (t .entry))) (take n (now (s .entry))) (now (m .exit)) ⌝ }
 {
-    if n < 9 {
+    if n < 7 {
         few_powers(d, n, t, s, m);
     } else {
         many_powers(d, n, t, s, m);

@@ -35,6 +35,9 @@ all-small {p} (more {a = a} h w) =
 holds-delayed : {p n : ℕ} {w : List ℕ} → Holds p n w → Delayed p n 1 (take n w) w
 holds-delayed y = record { words = reduced-words (y .words); small = all-small (y .words); zeros = y .zeros }
 
+pub stepped-delayed : (p n c : ℕ) (t v w w′ : List ℕ) → Holds p n w → Stepped p n t c v w w′ → Delayed p n 17 (reduced p (take n w′)) w′
+stepped-delayed p n c t v w w′ y step = delayed-same (delayed-more (omega arith) (step .next 1 (take n w) (holds-delayed y)))
+
 module _ (p n : ℕ) (t w : List ℕ) (big : 2 ≤ p) (x : Holds p n t) (y : Holds p n w) where
   pub word-delayed : Delayed p n 16 (reduced p (take n w)) w
   word-delayed = delayed-same (delayed-more (omega arith) (holds-delayed y))
@@ -49,9 +52,6 @@ module _ (p n : ℕ) (t w : List ℕ) (big : 2 ≤ p) (x : Holds p n t) (y : Hol
   module _ (w′ : List ℕ) (step : Stepped p n (take n t) 0 (take n t) w w′) where
     stepped : Delayed p n 2 (sum p (scale p 0 (take n t)) (timesX p (take n t) (take n w))) w′
     stepped = step .next 1 (take n w) (holds-delayed y)
-
-    pub stepped-delayed : Delayed p n 17 (reduced p (take n w′)) w′
-    stepped-delayed = delayed-same (delayed-more (omega arith) stepped)
 
     pub times-x-is : (r : List ℕ) → r ≡ padded (reduced p (take n w′)) → r ≡ padded (timesX p (take n t) (take n w))
     times-x-is r e = e ∙ ap padded (stepped .words ∙ zero-times-plus big (x .words) (timesX-words big (x .words) (y .words)))

@@ -7,7 +7,8 @@ use Rattle.quotient.specs.Residue.{power}
 use Rattle.array.specs.Array.{padded}
 use Rattle.matrix.specs.Matrix.{Powers}
 use Rattle.array.proofs.Padded.{array-length}
-use Rattle.matrix.proofs.powers.Columns.{last-first, powers-two, last-whole, last-product, last-size, last-turn, powers-turn, powers-done}
+use Rattle.matrix.proofs.MultiplicationMatrix.{products-size}
+use Rattle.matrix.proofs.powers.Columns.{last-first, powers-two, last-whole, last-product, last-turn, powers-turn, powers-done}
 use Rattle.matrix.proofs.powers.many_powers.Statement.{statement}
 use Rattle.matrix.proofs.powers.many_powers.Tie as tie
 
@@ -31,7 +32,7 @@ products-requires : tie.Need-products-requires Inv-loop μ-loop
 products-requires c κs = (search needs, (search needs, search last-whole))
 
 place-requires-2 : tie.Need-place-requires-2 Inv-loop μ-loop
-place-requires-2 c κs = (search needs, search needs, search (last-size, last-product), search needs)
+place-requires-2 c κs = (search needs, search needs, search products-size, search needs)
 
 add-j : tie.Need-add-j Inv-loop μ-loop
 add-j c = search needs
