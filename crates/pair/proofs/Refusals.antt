@@ -1,12 +1,12 @@
 -- The checker's refusals: what 1 to 4 leave, and the number after them.
-use mathlib.Core.Path.{_≡_, sym, ap, _∙_}
+use mathlib.Core.Path.{_≡_, refl, sym, ap, _∙_}
 use mathlib.Core.Bool.{Bool, true, false, not}
 use mathlib.Core.List.{List, [], _∷_}
 use Prim.Native.Nat.{ℕ, _^_, _≤_}
 use native.Mathlib.Omega.{arith}
 use lib.ListN.{length, take}
 use Rattle.array.specs.Words.{Words}
-use Rattle.refusal.specs.Refusal.{refuse, refuseSent}
+use Rattle.refusal.specs.Refusal.{refuse, refuseSent, badPrime, badDegree, badLength, badWord}
 use Rattle.refusal.proofs.Refusal.{Sent, sent-given, given-sent, sent-stays}
 use Rattle.refusal.proofs.Lists.{words-of, words-below}
 use Rattle.refusal.proofs.TwoModels.{models-sent, sent-models}
@@ -66,6 +66,49 @@ module _ (p n number : ℕ) (t1 t2 s r : List ℕ) (e : number ≡ refuseSent p 
 
       pub check-eight : b ≡ false → 8 ≡ checkNumber p n t1 t2 s r
       check-eight g = sym (decided ∙ ap (λ x. refuse 8 (not x) 0) g)
+
+-- an output list of the wrong length: 1 and 2 stay, and 3 takes the place of what comes after them
+
+module _ (number : ℕ) where
+  by-first : (a b c d e : Bool) → number ≡ refuse 1 a (refuse 2 b (refuse 3 c (refuse 4 d (refuse 8 e 0))))
+      → (number ≡ 1 → 1 ≡ refuse 1 a (refuse 2 b 3)) × (number ≡ 2 → 2 ≡ refuse 1 a (refuse 2 b 3))
+      × ((number ≡ 1 → ⊥) → (number ≡ 2 → ⊥) → 3 ≡ refuse 1 a (refuse 2 b 3))
+  by-first true b c d e f = (λ g. refl, λ g. absurd (omega arith), λ g h. absurd (g f))
+  by-first false true c d e f = (λ g. absurd (omega arith), λ g. refl, λ g h. absurd (h f))
+  by-first false false true d e f = (λ g. absurd (omega arith), λ g. absurd (omega arith), λ g h. refl)
+  by-first false false false true e f = (λ g. absurd (omega arith), λ g. absurd (omega arith), λ g h. refl)
+  by-first false false false false true f = (λ g. absurd (omega arith), λ g. absurd (omega arith), λ g h. refl)
+  by-first false false false false false f = (λ g. absurd (omega arith), λ g. absurd (omega arith), λ g h. refl)
+
+module _ (p n number : ℕ) (t1 t2 s r : List ℕ) (exact : Bool) (e : number ≡ checkNumber p n t1 t2 s r) where
+  pub exact-stays : exact ≡ true → number ≡ checkNumberOr (not exact) p n t1 t2 s r
+  exact-stays f = rw f e
+
+  module _ (f : exact ≡ false) where
+    wrong : (number ≡ 1 → 1 ≡ checkNumberOr true p n t1 t2 s r) × (number ≡ 2 → 2 ≡ checkNumberOr true p n t1 t2 s r)
+        × ((number ≡ 1 → ⊥) → (number ≡ 2 → ⊥) → 3 ≡ checkNumberOr true p n t1 t2 s r)
+    unfolding checkNumberOr
+    wrong = by-first number (badPrime p) (badDegree n) (badLength n (t1 ∷ t2 ∷ s ∷ r ∷ [])) (badWord p (t1 ∷ t2 ∷ s ∷ r ∷ [])) (not (accepts p t1 t2 s r)) e
+
+    pub wrong-one : number ≡ 1 → 1 ≡ checkNumberOr (not exact) p n t1 t2 s r
+    wrong-one g = rw f (wrong .0 g)
+
+    pub wrong-two : number ≡ 2 → 2 ≡ checkNumberOr (not exact) p n t1 t2 s r
+    wrong-two g = rw f (wrong .1 g)
+
+    pub wrong-three : (number ≡ 1 → ⊥) → (number ≡ 2 → ⊥) → 3 ≡ checkNumberOr (not exact) p n t1 t2 s r
+    wrong-three g h = rw f (wrong .2 g h)
+
+-- where none applies, the output list is right, and the checker accepts
+pub none-of-output : (b : Bool) (p n : ℕ) (t1 t2 s r : List ℕ) → checkNumberOr b p n t1 t2 s r ≡ 0 → (b ≡ false) × (checkNumber p n t1 t2 s r ≡ 0)
+unfolding checkNumberOr
+none-of-output false p n t1 t2 s r e = (refl, e)
+none-of-output true p n t1 t2 s r e = absurd (go (badPrime p) (badDegree n) e)
+  where
+    go : (a b : Bool) → refuse 1 a (refuse 2 b 3) ≡ 0 → ⊥
+    go true b f = omega arith
+    go false true f = omega arith
+    go false false f = omega arith
 
 -- the arrays that hold the lists
 

@@ -7,10 +7,11 @@ use refusal::sent::has_length;
 use refusal::sent::has_words;
 use refusal::sent::is_degree;
 use refusal::sent::number;
+ghost use mathlib.Core.Bool.{not};
 ghost use mathlib.Core.Path.{_≡_};
 ghost use mathlib.Core.List.{[], _∷_};
 ghost use Rattle.refusal.specs.Refusal.{refuseSent};
-ghost use Rattle.pair.specs.Pair.{accepts as acceptsPair, checkNumber};
+ghost use Rattle.pair.specs.Pair.{accepts as acceptsPair, checkNumber, checkNumberOr};
 ghost use Rattle.pair.specs.Theorem.{Given};
 
 // The number of the first refusal from 1 to 4 that applies, 0 where none does.
@@ -55,4 +56,29 @@ pub fn check(p: u32, n: u32, t1: &[Word], t2: &[Word], s: &[Word], r: &[Word]) -
         return number;
     }
     if accepted(p, n, t1, t2, s, r) { 0 } else { 8 }
+}
+
+// The same for a call that also writes a list: 3 also where that list has not its exact length.
+pub fn check_with_output(
+    p: u32,
+    n: u32,
+    t1: &[Word],
+    t2: &[Word],
+    s: &[Word],
+    r: &[Word],
+    exact: bool,
+) -> u32
+    ensures { λ number. ⌜ number ≡ checkNumberOr (not exact) p n (now (t1 .entry)) (now (t2 .entry)) (now (s .entry)) (now (r .entry)) ⌝ }
+{
+    let number = check(p, n, t1, t2, s, r);
+    if exact {
+        return number;
+    }
+    if number == 1 {
+        return 1;
+    }
+    if number == 2 {
+        return 2;
+    }
+    3
 }

@@ -1,5 +1,5 @@
 -- Decimal digits: a number below 10 has one, and any other has those of its tenth and one more.
-use mathlib.Core.Path.{_≡_, ap}
+use mathlib.Core.Path.{_≡_, sym, ap}
 use mathlib.Core.List.{List, [], _∷_, _++_}
 use Prim.Native.Nat.{ℕ, zero, suc, _+_, _*_, _/_, _%_, _^_, _≤_, _<_}
 use native.Mathlib.Decide.{decLt}
@@ -7,6 +7,8 @@ use native.Mathlib.Nat.{pow-suc}
 use native.Mathlib.Omega.{arith}
 use borrow.Author.Tests.{lt-ltb, le-ltb}
 use lib.ListN.{length, length-append}
+use mir.Syntax.{w64}
+use mir.Val.{Fits}
 use Rattle.text.specs.Digits.{decimal, lastDigits}
 use Rattle.text.specs.Text.{Appended}
 use Rattle.text.proofs.Append.{append-both}
@@ -44,6 +46,18 @@ decimal-length (suc w) k h = by-size (decLt k 10) (decimal-length w (k / 10) (te
     by-size : Dec (k < 10) → length (decimal (k / 10)) ≤ suc w → length (decimal k) ≤ suc (suc w)
     by-size (yes low) tenth = rw (decimal-one k low) (omega arith)
     by-size (no high) tenth = omega (arith, more-length k (omega arith))
+
+-- how many there are
+
+pub one-digit-long : (k : ℕ) → k < 10 → 1 ≡ length (decimal k)
+one-digit-long k h = sym (ap length (decimal-one k h))
+
+pub one-digit-longer : (k m : ℕ) → 10 ≤ k → m ≡ length (decimal (k / 10)) → m + 1 ≡ length (decimal k)
+one-digit-longer k m h e = omega (arith, e, more-length k h)
+
+-- a word of 64 bits has at most 20
+pub digits-fit : (k m : ℕ) → k < 2 ^ 64 → m ≡ length (decimal k) → Fits w64 (m + 1)
+digits-fit k m h e = omega (arith, e, decimal-length 19 k (omega arith))
 
 pub one-room : (at k : ℕ) (before : List ℕ) → k < 10 → at + length (decimal k) ≤ length before → at < length before
 one-room at k before h room = omega (arith, ap length (decimal-one k h))

@@ -1,4 +1,5 @@
 -- Text in a list of bytes: where it stands, its digits, and what is proved of them.
 pub mod Text
 pub mod Digits
+pub mod Columns
 pub mod Theorem

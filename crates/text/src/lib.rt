@@ -3,6 +3,8 @@
 //   bytes         a byte, a list of bytes
 //   hexadecimal   bytes in upper-case hexadecimal
 //   decimal       numbers in decimal
+//   columns       numbers with their sign, right-justified in columns, and blanks
 pub mod bytes;
+pub mod columns;
 pub mod decimal;
 pub mod hexadecimal;

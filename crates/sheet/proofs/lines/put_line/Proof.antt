@@ -1,0 +1,42 @@
+-- The name, the coefficients, the blanks and the newline, one behind another.
+use borrow.Author.Needs.{needs}
+use Rattle.sheet.proofs.LineParts.{fill-room, newline-room, line-append}
+use Rattle.sheet.proofs.lines.put_line.Statement.{statement}
+use Rattle.sheet.proofs.lines.put_line.Tie as tie
+
+put-requires : tie.Need-put-requires
+put-requires c κs = search needs
+
+put-coefficients-requires : tie.Need-put-coefficients-requires
+put-coefficients-requires c κs = search needs
+
+mul-put-blanks : tie.Need-mul-put-blanks
+mul-put-blanks c = search needs
+
+sub-put-blanks : tie.Need-sub-put-blanks
+sub-put-blanks c = search needs
+
+put-blanks-requires : tie.Need-put-blanks-requires
+put-blanks-requires c κs = search fill-room
+
+put-byte-requires : tie.Need-put-byte-requires
+put-byte-requires c κs = search newline-room
+
+same-length : tie.Need-same-length
+same-length c = search needs
+
+returns : tie.Need-returns
+returns c = search line-append
+
+pub put-line-spec : {M : Type 1} → statement M
+put-line-spec =
+    tie.close
+    (tie.spec
+    put-requires
+    put-coefficients-requires
+    mul-put-blanks
+    sub-put-blanks
+    put-blanks-requires
+    put-byte-requires
+    same-length
+    returns)

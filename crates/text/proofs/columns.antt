@@ -1,0 +1,4 @@
+-- The laws on which the proofs of `columns` rest.
+mod Sign
+mod Blanks
+mod Right
