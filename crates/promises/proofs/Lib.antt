@@ -1,5 +1,6 @@
--- The proofs of all promises, and of the examples.
+-- The proofs of all promises, of the examples and of the sheets.
 mod Promises
 mod Examples
+mod SheetExamples
 mod Listed
 mod Refused

@@ -7,9 +7,12 @@ use Rattle.modular.proofs.IsPrime as Modular
 use Rattle.pair.proofs.Theorem as Pair
 use Rattle.quotient.proofs.Theorem as Quotient
 use Rattle.session.proofs.Theorem as Session
+use Rattle.sheet.proofs.Theorem as Sheet
 use Rattle.text.proofs.Theorem as Text
+use Rattle.text.proofs.ColumnDetermines as Columns
 use Rattle.promises.specs.Promises.{Promises}
 use Rattle.promises.proofs.Examples as Examples
+use Rattle.promises.proofs.SheetExamples as SheetExamples
 
 pub promises : Promises
 promises =
@@ -38,6 +41,10 @@ promises =
       read-is-written = Card.read-is-written;
       longest-card = Card.longest-card;
       decimal-is-decimal = Text.decimal-is-decimal;
+      column-determines = Columns.column-determines;
       long-input = Answer.long-input;
+      sheet-has-length = Sheet.sheet-has-length;
+      sheet-determines = Sheet.sheet-determines;
+      sheet-examples = SheetExamples.sheet-examples;
       examples = Examples.examples;
     }

@@ -14,8 +14,10 @@ use Rattle.quotient.specs.DivisorTest.{DivisorTestIsExact}
 use Rattle.quotient.specs.Theorem.{ResiduesAreARing, ModulusVanishes, ProductIsRemainder, SubstitutionIsSum, SubstitutionPreserves, ResiduesAreListed, NonZeroIsUnit, PowerOfUnit, IrreducibleDivisor, FrobeniusIsLinear}
 use Rattle.held.specs.Theorem.{CountsAsHeld}
 use Rattle.session.specs.Theorem.{EveryRun, RefusalsChangeNothing, GroupByGroup, BackAgain}
-use Rattle.text.specs.Theorem.{DecimalIsDecimal}
+use Rattle.sheet.specs.Theorem.{SheetHasLength, SheetDetermines}
+use Rattle.text.specs.Theorem.{DecimalIsDecimal, ColumnDetermines}
 use Rattle.promises.specs.Examples.{Examples}
+use Rattle.promises.specs.SheetExamples.{SheetExamples}
 
 pub record Promises : Type 0 where
   -- Demand 1 (session/specs/Theorem.antt, held/specs/Theorem.antt): every list of calls makes of a new session one that is new, loaded or paired with an accepted pair; a
@@ -53,6 +55,12 @@ pub record Promises : Type 0 where
   pub longest-card : LongestCard
   -- Text (text/specs/Theorem.antt), and what the program prints (answer/specs/Theorem.antt)
   pub decimal-is-decimal : DecimalIsDecimal
+  pub column-determines : ColumnDetermines
   pub long-input : LongInput
+  -- The printed sheet, request S-1 (sheet/specs/Theorem.antt): its length, and that it determines the four lists; two sheets computed
+  -- (specs/SheetExamples.antt)
+  pub sheet-has-length : SheetHasLength
+  pub sheet-determines : SheetDetermines
+  pub sheet-examples : SheetExamples
   -- Small fields by hand, A to I (specs/Examples.antt)
   pub examples : Examples

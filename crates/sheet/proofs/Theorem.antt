@@ -1,13 +1,14 @@
 -- The sheet has its length and determines the four lists: the lines have one length, so equal sheets have equal lines; within a line the name, the
 -- coefficients and the blanks stand at fixed places; and columns determine the words.
 use mathlib.Core.Path.{_≡_, refl, sym, ap, ap₂, subst, _∙_}
-use mathlib.Core.List.{List, [], _∷_, _++_}
+use mathlib.Core.List.{List, _++_}
 use Prim.Native.Nat.{ℕ, zero, suc, _+_, _-_, _*_, _/_, _^_, _≤_}
 use native.Mathlib.Nat as Nat
 use native.Mathlib.Omega.{arith}
 use lib.ListN.{length, take, drop, length-append, take-append-drop}
 use Rattle.array.specs.Words.{Words, none, more}
 use Rattle.array.proofs.Words.{drop-words}
+use Rattle.text.specs.Ascii.{ascii}
 use Rattle.text.specs.Columns.{blanks, filled}
 use Rattle.text.proofs.ColumnDetermines.{blanks-length, filled-length}
 use Rattle.sheet.specs.Sheet.{columns, line, lines, polynomial, sheetText, sheetLength}
@@ -53,31 +54,31 @@ module _ (p : ℕ) (small : p ≤ 2 ^ 20) where
   same-length name three w w′ = polynomial-length p small name three w ∙ sym (polynomial-length p small name three w′)
 
 pub sheet-has-length : SheetHasLength
-unfolding sheetText sheetLength
+unfolding sheetText sheetLength ascii
 sheet-has-length p n t1 t2 s r small g =
-    let T1 : List ℕ = polynomial p n (84 ∷ 49 ∷ 32 ∷ []) t1 in
-    let T2 : List ℕ = polynomial p n (84 ∷ 50 ∷ 32 ∷ []) t2 in
-    let S : List ℕ = polynomial p n (83 ∷ 32 ∷ 32 ∷ []) s in
-    let R : List ℕ = polynomial p n (82 ∷ 32 ∷ 32 ∷ []) r in
+    let T1 : List ℕ = polynomial p n (ascii "T1 ") t1 in
+    let T2 : List ℕ = polynomial p n (ascii "T2 ") t2 in
+    let S : List ℕ = polynomial p n (ascii "S  ") s in
+    let R : List ℕ = polynomial p n (ascii "R  ") r in
     omega (
       arith,
       length-append T1 (T2 ++ (S ++ R)),
       length-append T2 (S ++ R),
       length-append S R,
-      polynomial-length p small (84 ∷ 49 ∷ 32 ∷ []) refl (g .words-1),
-      polynomial-length p small (84 ∷ 50 ∷ 32 ∷ []) refl (g .words-2),
-      polynomial-length p small (83 ∷ 32 ∷ 32 ∷ []) refl (g .words-s),
-      polynomial-length p small (82 ∷ 32 ∷ 32 ∷ []) refl (g .words-r),
+      polynomial-length p small (ascii "T1 ") refl (g .words-1),
+      polynomial-length p small (ascii "T2 ") refl (g .words-2),
+      polynomial-length p small (ascii "S  ") refl (g .words-s),
+      polynomial-length p small (ascii "R  ") refl (g .words-r),
     )
 
 pub sheet-determines : SheetDetermines
-unfolding sheetText
+unfolding sheetText ascii
 sheet-determines p n t1 t2 s r t1′ t2′ s′ r′ small g g′ e =
-    let (e1, f1) = parts-equal _ _ _ _ (same-length p small (84 ∷ 49 ∷ 32 ∷ []) refl (g .words-1) (g′ .words-1)) e in
-    let (e2, f2) = parts-equal _ _ _ _ (same-length p small (84 ∷ 50 ∷ 32 ∷ []) refl (g .words-2) (g′ .words-2)) f1 in
-    let (e3, e4) = parts-equal _ _ _ _ (same-length p small (83 ∷ 32 ∷ 32 ∷ []) refl (g .words-s) (g′ .words-s)) f2 in (
-      polynomial-determines p small (84 ∷ 49 ∷ 32 ∷ []) refl (g .words-1) (g′ .words-1) e1,
-      polynomial-determines p small (84 ∷ 50 ∷ 32 ∷ []) refl (g .words-2) (g′ .words-2) e2,
-      polynomial-determines p small (83 ∷ 32 ∷ 32 ∷ []) refl (g .words-s) (g′ .words-s) e3,
-      polynomial-determines p small (82 ∷ 32 ∷ 32 ∷ []) refl (g .words-r) (g′ .words-r) e4,
+    let (e1, f1) = parts-equal _ _ _ _ (same-length p small (ascii "T1 ") refl (g .words-1) (g′ .words-1)) e in
+    let (e2, f2) = parts-equal _ _ _ _ (same-length p small (ascii "T2 ") refl (g .words-2) (g′ .words-2)) f1 in
+    let (e3, e4) = parts-equal _ _ _ _ (same-length p small (ascii "S  ") refl (g .words-s) (g′ .words-s)) f2 in (
+      polynomial-determines p small (ascii "T1 ") refl (g .words-1) (g′ .words-1) e1,
+      polynomial-determines p small (ascii "T2 ") refl (g .words-2) (g′ .words-2) e2,
+      polynomial-determines p small (ascii "S  ") refl (g .words-s) (g′ .words-s) e3,
+      polynomial-determines p small (ascii "R  ") refl (g .words-r) (g′ .words-r) e4,
     )

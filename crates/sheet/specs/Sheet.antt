@@ -5,7 +5,7 @@
 --                             ends with a newline"
 --   lines p k name u          k lines, the coefficients "eight to a line": the first with the name, "Continued lines begin with 3 blanks"
 --   polynomial p n name u     one of the four lists, "starting a line with its name in 3 columns": n coefficients take n/8 lines, rounded up
---   sheetText p n t1 t2 s r   "Print T1, T2, S and R": the names are `T1 `, `T2 `, `S  ` and `R  `
+--   sheetText p n t1 t2 s r   "Print T1, T2, S and R"
 --   sheetLength n             "the sheet's exact length": four times n/8 lines, rounded up, of 60 bytes
 --   sheetNumber p n t1 t2 s r out   "the checker's numbers, and 3 where the output list is not of the sheet's exact length"
 --   sheetOutput p n t1 t2 s r out   what the output list holds after the call: the sheet where the number is 0, else what it held
@@ -15,6 +15,7 @@ use Prim.Native.Nat.{ℕ, zero, suc, _+_, _*_, _/_}
 use lib.Dec.{leb, eqb}
 use lib.IntN.{ℤ, pos, _-ℤ_}
 use lib.ListN.{length, take, drop}
+use Rattle.text.specs.Ascii.{ascii}
 use Rattle.text.specs.Columns.{blanks, signedDecimal, rightJustified, filled}
 use Rattle.refusal.specs.Refusal.{written}
 use Rattle.pair.specs.Pair.{checkNumberOr}
@@ -38,10 +39,8 @@ polynomial p n name u = lines p ((n + 7) / 8) name u
 
 unfoldable pub sheetText : ℕ → ℕ → List ℕ → List ℕ → List ℕ → List ℕ → List ℕ
 sheetText p n t1 t2 s r =
-    polynomial p n (84 ∷ 49 ∷ 32 ∷ []) t1
-    ++ (polynomial p n (84 ∷ 50 ∷ 32 ∷ []) t2
-    ++ (polynomial p n (83 ∷ 32 ∷ 32 ∷ []) s
-    ++ polynomial p n (82 ∷ 32 ∷ 32 ∷ []) r))
+    polynomial p n (ascii "T1 ") t1
+    ++ (polynomial p n (ascii "T2 ") t2 ++ (polynomial p n (ascii "S  ") s ++ polynomial p n (ascii "R  ") r))
 
 unfoldable pub sheetLength : ℕ → ℕ
 sheetLength n = 4 * ((n + 7) / 8) * 60
