@@ -8,7 +8,7 @@
  * that a session call gives back the session it took:
  *    1  p is below 2, above 65,535 or not prime
  *    2  n is not 1 to 16
- *    3  a list of coefficients, read or written, or a card's output list has the wrong length
+ *    3  a list of coefficients, read or written, or the output list of a card or sheet has the wrong length
  *    4  a coefficient is p or more
  *    5  n does not divide p - 1
  *    6  T1 has a monic divisor of degree 1 to n - 1
@@ -50,6 +50,14 @@ uint32_t yokebean_power(uint32_t p, uint32_t n, const uint16_t *t, size_t t_len,
 /* The checker: whether the four congruences hold; then u -> u(S) mod T2 and u -> u(R) mod T1 are inverse isomorphisms. 1, 2, 3, 4, 8. */
 uint32_t yokebean_check(uint32_t p, uint32_t n, const uint16_t *t1, size_t t1_len, const uint16_t *t2, size_t t2_len,
                         const uint16_t *s, size_t s_len, const uint16_t *r, size_t r_len);
+
+/* The printed sheet of a pair that the checker accepts: T1, T2, S and R, each starting a line with its name in 3 columns; coefficients follow,
+ * constant first, eight to a line, right-justified in 7 columns; continued lines begin with 3 blanks, and every line is filled with blanks to
+ * 59 columns and ends with a newline. A word v prints as v if v is at most p/2 rounded down, else as v - p. ASCII, without a zero at the end.
+ * out has yokebean_sheet_length(n) bytes: 240 for n up to 8, 480 for n from 9 to 16. 1, 2, 3, 4, 8. */
+uint32_t yokebean_sheet(uint32_t p, uint32_t n, const uint16_t *t1, size_t t1_len, const uint16_t *t2, size_t t2_len,
+                        const uint16_t *s, size_t s_len, const uint16_t *r, size_t r_len, uint8_t *out, size_t out_len);
+size_t yokebean_sheet_length(uint32_t n);
 
 /* The finder: writes the pair of Allombert's Algorithm 2.1, with the smallest zeta and c from 1 to p - 1 and eigenvectors whose first
  * coefficient that is not zero is 1, into s and r, two lists of n words. 1 to 7. */

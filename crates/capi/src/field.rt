@@ -2,6 +2,7 @@
 ghost use mathlib.Core.Path.{_≡_};
 ghost use Rattle.finder.specs.Finder.{findNumber, findOutputS, findOutputR};
 ghost use Rattle.pair.specs.Pair.{checkNumber};
+ghost use Rattle.sheet.specs.Sheet.{sheetLength, sheetNumber, sheetOutput};
 ghost use Rattle.arithmetic.specs.Calls.{substituteNumber, substituteOutput, productNumber, productOutput, powerNumber, powerOutput};
 use array::Word;
 
@@ -18,6 +19,31 @@ pub extern "C" fn yokebean_check(
     ensures { λ k. ⌜ k ≡ checkNumber p n (now (t1 .entry)) (now (t2 .entry)) (now (s .entry)) (now (r .entry)) ⌝ }
 {
     pair::checker::check(p, n, t1, t2, s, r)
+}
+
+// out := T1, T2, S and R printed on a sheet: 0, or 1, 2, 3, 4, 8.
+#[no_mangle]
+pub extern "C" fn yokebean_sheet(
+    p: u32,
+    n: u32,
+    t1: &[Word],
+    t2: &[Word],
+    s: &[Word],
+    r: &[Word],
+    out: &mut [u8],
+) -> u32
+    ensures { λ k. ⌜ k ≡ sheetNumber p n (now (t1 .entry)) (now (t2 .entry)) (now (s .entry)) (now (r .entry)) (now (out .entry)) ⌝ }
+    ensures { λ k. ⌜ now (out .exit) ≡ sheetOutput p n (now (t1 .entry)) (now (t2 .entry)) (now (s .entry)) (now (r .entry)) (now (out .entry)) ⌝ }
+{
+    sheet::print::sheet(p, n, t1, t2, s, r, out)
+}
+
+// The length of a sheet for lists of n words.
+#[no_mangle]
+pub extern "C" fn yokebean_sheet_length(n: u32) -> usize
+    ensures { λ k. ⌜ k ≡ sheetLength n ⌝ }
+{
+    sheet::print::sheet_length(n)
 }
 
 // s and r := the pair of Algorithm 2.1: 0, or 1 to 7.

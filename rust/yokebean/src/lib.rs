@@ -99,6 +99,44 @@ pub fn check(size: Size, t1: &[u16], t2: &[u16], s: &[u16], r: &[u16]) -> Result
     answer(number, ())
 }
 
+/// The length of a sheet for models of degree n.
+pub fn sheet_length(n: u32) -> usize {
+    unsafe { raw::yokebean_sheet_length(n) }
+}
+
+/// The printed sheet of a pair that the checker accepts: T1, T2, S and R, coefficients constant first, eight to a line, each word v above half of
+/// p as v − p. `out` has [`sheet_length`] bytes and receives ASCII text. Refusals 1, 2, 3, 4, 8.
+///
+/// ```
+/// let size = yokebean::Size { p: 3, n: 2 };
+/// let mut out = vec![0; yokebean::sheet_length(size.n)];
+/// yokebean::sheet(size, &[1, 0], &[2, 1], &[1, 2], &[1, 2], &mut out)?;
+/// let text = String::from_utf8(out).expect("ASCII");
+/// let lines: Vec<&str> = text.lines().map(str::trim_end).collect();
+/// assert_eq!(lines, ["T1       1      0", "T2      -1      1", "S        1     -1", "R        1     -1"]);
+/// # Ok::<(), yokebean::Refusal>(())
+/// ```
+pub fn sheet(size: Size, t1: &[u16], t2: &[u16], s: &[u16], r: &[u16], out: &mut [u8]) -> Result<(), Refusal> {
+    let Size { p, n } = size;
+    let number = unsafe {
+        raw::yokebean_sheet(
+            p,
+            n,
+            t1.as_ptr(),
+            t1.len(),
+            t2.as_ptr(),
+            t2.len(),
+            s.as_ptr(),
+            s.len(),
+            r.as_ptr(),
+            r.len(),
+            out.as_mut_ptr(),
+            out.len(),
+        )
+    };
+    answer(number, ())
+}
+
 /// The finder: writes the pair of Allombert's Algorithm 2.1 into s and r, which have n words. Refusals 1 to 7.
 ///
 /// ```

@@ -57,7 +57,7 @@ macro_rules! refusals {
 refusals! {
     1 NotPrime "p is below 2, above 65,535 or not prime"
     2 Degree "n is not 1 to 16"
-    3 Length "a list of coefficients, read or written, or a card's output list has the wrong length"
+    3 Length "a list of coefficients, read or written, or the output list of a card or sheet has the wrong length"
     4 Word "a coefficient is p or more"
     5 DegreeDoesNotDivide "n does not divide p − 1"
     6 FirstModulusFactors "T1 has a monic divisor of degree 1 to n − 1"

@@ -5,6 +5,7 @@ pub mod pairs;
 pub mod program;
 pub mod residues;
 pub mod sessions;
+pub mod sheets;
 
 use std::collections::BTreeMap;
 use std::fmt::Debug;

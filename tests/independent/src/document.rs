@@ -1,4 +1,4 @@
-//! Document 01 in plain Rust: what the calls must answer, written from the document and by other methods than the proved code's.
+//! Document 01, and of document 02 the requests that have landed, in plain Rust: what the calls must answer, written from the document and by other methods than the proved code's.
 //! Polynomials are multiplied out and divided with remainder; divisors are found by greatest common divisors; the finder's values come from
 //! sums over conjugates (Lagrange resolvents), without solving linear systems; cards are strings of bits.
 
@@ -7,6 +7,7 @@ pub mod finder;
 pub mod model;
 pub mod polynomial;
 pub mod session;
+pub mod sheet;
 
 use model::Model;
 

@@ -1,6 +1,6 @@
-//! Examples A to J of document 01, on the independent implementation itself.
+//! Examples A to J of document 01, and the sheet of A, on the independent implementation itself.
 
-use crate::document::{self, card, finder, is_prime, session::Session};
+use crate::document::{self, card, finder, is_prime, session::Session, sheet};
 
 pub fn hold() {
     let pair = finder::pair(3, &[1, 0], &[2, 1]);
@@ -23,4 +23,7 @@ pub fn hold() {
     assert_eq!(card::card(7, 3, 1, &[5, 0, 0, 4, 0, 0]), [0x00, 0x07, 0x21, 0xA0, 0x40, 0x00]);
     assert_eq!(card::fieldcard(&[0x00, 0x03, 0x11, 0x49]), "PAIR 0003124966\n");
     assert!(is_prime(65_521) && !is_prime(65_535) && !is_prime(65_537));
+    let (number, out) = sheet::sheet(3, 2, [&[1, 0], &[2, 1], &[1, 2], &[1, 2]], &[0; 240]);
+    let lines: Vec<&str> = std::str::from_utf8(&out).unwrap().lines().collect();
+    assert_eq!((number, lines[1]), (0, format!("T2      -1      1{}", " ".repeat(42)).as_str()));
 }

@@ -13,6 +13,7 @@ fn main() {
     let mut tally = compare::Tally::default();
     compare::residues::run(12_000 * factor, &mut tally);
     compare::pairs::run(12_000 * factor, &mut tally);
+    compare::sheets::run(1_000 * factor, &mut tally);
     compare::cards::run(30_000 * factor, &mut tally);
     compare::sessions::run(60_000 * factor, &mut tally);
     compare::program::run(200 * factor, &mut tally);

@@ -9,13 +9,13 @@ use crate::random::Random;
 use yokebean::{check, find, Size};
 
 /// Two moduli and a pair.
-struct Case {
-    p: u32,
-    n: u32,
-    t1: Vec<u16>,
-    t2: Vec<u16>,
-    s: Vec<u16>,
-    r: Vec<u16>,
+pub struct Case {
+    pub p: u32,
+    pub n: u32,
+    pub t1: Vec<u16>,
+    pub t2: Vec<u16>,
+    pub s: Vec<u16>,
+    pub r: Vec<u16>,
 }
 
 /// A monic modulus without divisors where that is asked for and one turns up soon; else any.
@@ -39,7 +39,7 @@ fn modulus(random: &mut Random, p: u32, n: u32, irreducible: bool) -> Vec<u16> {
 }
 
 /// T2 is T1(aX + b) up to a factor, with S = aX + b and R = (X − b)/a: accepted whether T1 has divisors or not.
-fn changed_variable(random: &mut Random, p: u32, n: u32, t1: Vec<u16>) -> Case {
+pub fn changed_variable(random: &mut Random, p: u32, n: u32, t1: Vec<u16>) -> Case {
     let a = 1 + random.below(u64::from(p) - 1);
     let b = random.below(p.into());
     let inverse = polynomial::power(p.into(), a, u64::from(p) - 2);
@@ -81,7 +81,7 @@ fn conjugate(case: &mut Case) {
     case.r = inverse;
 }
 
-fn damage(random: &mut Random, case: &mut Case) {
+pub fn damage(random: &mut Random, case: &mut Case) {
     let n = case.n as usize;
     let place = random.below(n as u64) as usize;
     let p = u64::from(case.p);
@@ -116,7 +116,7 @@ fn half_conjugate(case: &mut Case) {
     case.s = Model::new(case.p, &case.t2).power(&case.s, case.p.into());
 }
 
-fn draw(random: &mut Random) -> Case {
+pub fn draw(random: &mut Random) -> Case {
     let p = random.prime();
     let divisors: Vec<u32> = (1..=16).filter(|n| (p - 1) % n == 0).collect();
     let n = divisors[random.below(divisors.len() as u64) as usize];
