@@ -47,29 +47,25 @@ module _ (p : ℕ) (small : p ≤ 2 ^ 20) where
   unfolding polynomial
   polynomial-length {n} name three w = lines-length ((n + 7) / 8) name three w
 
--- a line in its four parts
+-- a line in its four parts: the place behind the coefficients, and the whole
 
-module _ (p at start : ℕ) (name u before named : List ℕ) (small : p ≤ 2 ^ 20) (w : Words p (length u) u) (few : length u ≤ 8) (three : length name ≡ 3)
-    (a : Appended at name before named start) where
-  module _ (end : ℕ) (between : List ℕ) (b : Appended start (columns 7 p u) named between end) where
-    place : end ≡ at + (3 + length u * 7)
-    place = omega (arith, a .end-is, b .end-is, columns-length 5 p (seven p small) w)
+pub behind-coefficients : {p at start end : ℕ} {name u before named between : List ℕ} → Appended at name before named start
+    → Appended start (columns 7 p u) named between end → p ≤ 2 ^ 20 → Words p (length u) u → length name ≡ 3 → end ≡ at + (3 + length u * 7)
+behind-coefficients {p} a b small w three = omega (arith, a .end-is, b .end-is, columns-length 5 p (seven p small) w)
 
-    pub fill-room : length named ≡ length before → length between ≡ length named → at + 60 ≤ length before → end + (56 - 7 * length u) ≤ length between
-    fill-room same same′ room = omega (arith, place)
+pub behind-blanks : (k : ℕ) {end last : ℕ} {between full : List ℕ} → Appended end (blanks k) between full last → last ≡ end + k
+behind-blanks k c = omega (arith, c .end-is, blanks-length k)
 
-    module _ (last : ℕ) (full : List ℕ) (c : Appended end (blanks (56 - 7 * length u)) between full last) where
-      pub newline-room : length named ≡ length before → length between ≡ length named → length full ≡ length between → at + 60 ≤ length before → last < length full
-      newline-room same same′ same″ room = omega (arith, place, c .end-is, blanks-length (56 - 7 * length u))
-
-      pub line-append : (r : ℕ) (after : List ℕ) → Appended last (10 ∷ []) full after r → Appended at (line p name u) before after r
-      unfolding line filled
-      line-append r after e =
-          let fill : 56 - 7 * length u ≡ 59 - length (name ++ columns 7 p u) = omega (arith, text-length p small name three w) in
-          let text : Appended at (name ++ columns 7 p u) before between end = append-both at start end name (columns 7 p u) before named between a b in
-          let filling : Appended end (blanks (59 - length (name ++ columns 7 p u))) between full last = subst (λ k. Appended end (blanks k) between full last) fill c in
-          append-both at last r (filled 59 (name ++ columns 7 p u)) (10 ∷ []) before full after
-          (append-both at end last (name ++ columns 7 p u) (blanks (59 - length (name ++ columns 7 p u))) before between full text filling) e
+pub line-append : (p at start end last r : ℕ) (name u before named between full after : List ℕ) → p ≤ 2 ^ 20 → Words p (length u) u → length u ≤ 8 → length name ≡ 3
+    → Appended at name before named start → Appended start (columns 7 p u) named between end → Appended end (blanks (56 - 7 * length u)) between full last
+    → Appended last (10 ∷ []) full after r → Appended at (line p name u) before after r
+unfolding line filled
+line-append p at start end last r name u before named between full after small w few three a b c e =
+    let fill : 56 - 7 * length u ≡ 59 - length (name ++ columns 7 p u) = omega (arith, text-length p small name three w) in
+    let text : Appended at (name ++ columns 7 p u) before between end = append-both at start end name (columns 7 p u) before named between a b in
+    let filling : Appended end (blanks (59 - length (name ++ columns 7 p u))) between full last = subst (λ k. Appended end (blanks k) between full last) fill c in
+    append-both at last r (filled 59 (name ++ columns 7 p u)) (10 ∷ []) before full after
+    (append-both at end last (name ++ columns 7 p u) (blanks (59 - length (name ++ columns 7 p u))) before between full text filling) e
 
 -- one line, or two: the lists that are handed on are take 8 u and the rest of it
 

@@ -27,10 +27,11 @@ module _ (x : ℤ) (f : SFits w32 x) where
     pub right-blanks-room : (at : ℕ) (before : List ℕ) → at + width ≤ length before → at + (width - m) ≤ length before
     right-blanks-room at before room = omega (arith, right-short)
 
-    module _ (at end : ℕ) (before between : List ℕ) (a : Appended at (blanks (width - m)) before between end) where
-      pub right-room : length between ≡ length before → at + width ≤ length before → end + length (signedDecimal (toZ w32 (ofZ w32 x))) ≤ length between
-      right-room same room = omega (arith, a .end-is, blanks-length (width - m), right-short)
+    -- where the number begins
+    pub right-place : (at end : ℕ) (before between : List ℕ) → Appended at (blanks (width - m)) before between end → (end ≡ at + (width - m)) × (m ≤ width)
+    right-place at end before between a = (omega (arith, a .end-is, blanks-length (width - m)), right-short)
 
+    module _ (at end : ℕ) (before between : List ℕ) (a : Appended at (blanks (width - m)) before between end) where
       pub right-append : (r : ℕ) (after : List ℕ) → Appended end (signedDecimal (toZ w32 (ofZ w32 x))) between after r
           → Appended at (rightJustified width (signedDecimal x)) before after r
       unfolding rightJustified

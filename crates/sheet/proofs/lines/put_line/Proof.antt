@@ -1,6 +1,7 @@
 -- The name, the coefficients, the blanks and the newline, one behind another.
 use borrow.Author.Needs.{needs}
-use Rattle.sheet.proofs.LineParts.{fill-room, newline-room, line-append}
+use native.Mathlib.Omega.{arith}
+use Rattle.sheet.proofs.LineParts.{behind-coefficients, behind-blanks, line-append}
 use Rattle.sheet.proofs.lines.put_line.Statement.{statement}
 use Rattle.sheet.proofs.lines.put_line.Tie as tie
 
@@ -17,10 +18,21 @@ sub-put-blanks : tie.Need-sub-put-blanks
 sub-put-blanks c = search needs
 
 put-blanks-requires : tie.Need-put-blanks-requires
-put-blanks-requires c κs = search fill-room
+put-blanks-requires c κs =
+    let coefficients = c .before .before .before in
+    let name = coefficients .before .before .before .before in
+    omega (arith, behind-coefficients (name .put .ensures) (coefficients .put-coefficients .ensures) (search needs) (search needs) (search needs))
 
 put-byte-requires : tie.Need-put-byte-requires
-put-byte-requires c κs = search newline-room
+put-byte-requires c κs =
+    let fill = c .before .before .before in
+    let coefficients = fill .before .before .before .before in
+    let name = coefficients .before .before .before .before in
+    omega (
+      arith,
+      behind-coefficients (name .put .ensures) (coefficients .put-coefficients .ensures) (search needs) (search needs) (search needs),
+      behind-blanks _ (fill .put-blanks .ensures),
+    )
 
 same-length : tie.Need-same-length
 same-length c = search needs

@@ -1,6 +1,7 @@
 -- The blanks, and the number behind them.
 use borrow.Author.Needs.{needs}
-use Rattle.text.proofs.columns.Right.{right-small, right-short, right-blanks-room, right-room, right-append}
+use native.Mathlib.Omega.{arith}
+use Rattle.text.proofs.columns.Right.{right-small, right-short, right-blanks-room, right-place, right-append}
 use Rattle.text.proofs.columns.put_right.Statement.{statement}
 use Rattle.text.proofs.columns.put_right.Tie as tie
 
@@ -14,7 +15,12 @@ put-blanks-requires : tie.Need-put-blanks-requires
 put-blanks-requires c κs = search right-blanks-room
 
 put-signed-requires : tie.Need-put-signed-requires
-put-signed-requires c κs = (search right-small, search right-room)
+put-signed-requires c κs =
+    let blanks = c .before .before .before in
+    let size = blanks .before in
+    let start = size .before .before .before in
+    let place = right-place (start .args .x) (start .fits .x) _ _ (size .signed-length .ensures) (start .pre .1) _ _ _ _ (blanks .put-blanks .ensures) in
+    (search right-small, omega (arith, place))
 
 same-length : tie.Need-same-length
 same-length c = search needs
