@@ -1,5 +1,6 @@
--- Words as signed numbers (SignedWord), coefficients in columns (Columns), lines (LineParts), and what is proved of the sheet (Theorem).
+-- Words as signed numbers (SignedWord), coefficients in columns (Columns), the lengths of lines (LineLengths), and what is proved of the
+-- sheet (Theorem).
 pub mod SignedWord
 pub mod Columns
-pub mod LineParts
+pub mod LineLengths
 pub mod Theorem

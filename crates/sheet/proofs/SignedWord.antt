@@ -1,19 +1,14 @@
 -- A word v as the number v or v − p: it is at most half of p in magnitude, and determines v.
-use mathlib.Core.Path.{_≡_, refl, sym, ap, ap₂, subst, _∙_}
-use mathlib.Core.Bool.{true, false}
-use Prim.Native.Nat.{ℕ, zero, suc, _+_, _-_, _*_, _/_, _^_, _≤_, _<_}
+use mathlib.Core.Path.{_≡_, sym, ap, _∙_}
+use Prim.Native.Nat.{ℕ, zero, suc, _-_, _/_, _≤_, _<_}
 use native.Mathlib.Decide.{decLt}
 use native.Mathlib.Omega.{arith}
 use borrow.Author.Tests.{le-leb, lt-leb, lt-ltb}
-use lib.Dec.{leb, ltb}
 use lib.IntN.{ℤ, pos, negsuc, natAbs, _-ℤ_}
-use mir.Syntax.{w32}
-use mir.Val.{SFits, toZ, ofZ}
-use mir.ValLaws.{toZ-ofZ}
 use Rattle.sheet.specs.Sheet.{centred}
 
 -- v − p for v < p
-difference : (p v : ℕ) → v < p → pos v -ℤ pos p ≡ negsuc (p - suc v)
+pub difference : (p v : ℕ) → v < p → pos v -ℤ pos p ≡ negsuc (p - suc v)
 difference zero v h = absurd (omega arith)
 difference (suc q) v h = rw (lt-ltb v (suc q) h)
 
@@ -45,20 +40,3 @@ centred-determines p v w l m e = go (decLt (p / 2) v) (decLt (p / 2) w)
     go (yes h) (no k) = absurd (omega (arith, ap sign (sym (centred-high p v h l) ∙ e ∙ centred-low p w (omega arith))))
     go (no h) (yes k) = absurd (omega (arith, ap sign (sym (centred-low p v (omega arith)) ∙ e ∙ centred-high p w k m)))
     go (no h) (no k) = omega (arith, ap natAbs (sym (centred-low p v (omega arith)) ∙ e ∙ centred-low p w (omega arith)))
-
--- the function: words below 2^31 are read back as they are
-read : (v : ℕ) → v < 2 ^ 31 → toZ w32 v ≡ pos v
-read v h = toZ-ofZ w32 (pos v) (record { sfits = h })
-
-module _ (p v : ℕ) (l : v < p) (small : p ≤ 2 ^ 20) where
-  pub low-is : v ≤ p / 2 → toZ w32 v ≡ centred p v
-  low-is h = read v (omega arith) ∙ sym (centred-low p v h)
-
-  both-read : toZ w32 v -ℤ toZ w32 p ≡ negsuc (p - suc v)
-  both-read = ap₂ _-ℤ_ (read v (omega arith)) (read p (omega arith)) ∙ difference p v l
-
-  pub high-fits : SFits w32 (toZ w32 v -ℤ toZ w32 p)
-  high-fits = let fits : SFits w32 (negsuc (p - suc v)) = record { sfits = omega arith } in subst (SFits w32) (sym both-read) fits
-
-  pub high-is : p / 2 < v → toZ w32 (ofZ w32 (toZ w32 v -ℤ toZ w32 p)) ≡ centred p v
-  high-is h = toZ-ofZ w32 (toZ w32 v -ℤ toZ w32 p) high-fits ∙ both-read ∙ sym (centred-high p v h l)

@@ -1,11 +1,11 @@
 -- The sheet has its length and determines the four lists: the lines have one length, so equal sheets have equal lines; within a line the name, the
 -- coefficients and the blanks stand at fixed places; and columns determine the words.
-use mathlib.Core.Path.{_≡_, refl, sym, ap, ap₂, subst, _∙_}
+use mathlib.Core.Path.{_≡_, refl, sym, ap₂, _∙_}
 use mathlib.Core.List.{List, _++_}
 use Prim.Native.Nat.{ℕ, zero, suc, _+_, _-_, _*_, _/_, _^_, _≤_}
 use native.Mathlib.Nat as Nat
 use native.Mathlib.Omega.{arith}
-use lib.ListN.{length, take, drop, length-append, take-append-drop}
+use lib.ListN.{length, take, length-append, take-append-drop}
 use Rattle.array.specs.Words.{Words, none, more}
 use Rattle.array.proofs.Words.{drop-words}
 use Rattle.text.specs.Ascii.{ascii}
@@ -14,7 +14,7 @@ use Rattle.text.proofs.ColumnDetermines.{blanks-length, filled-length}
 use Rattle.sheet.specs.Sheet.{columns, line, lines, polynomial, sheetText, sheetLength}
 use Rattle.sheet.specs.Theorem.{SheetHasLength, SheetDetermines}
 use Rattle.sheet.proofs.Columns.{parts-equal, seven, columns-determine}
-use Rattle.sheet.proofs.LineParts.{front, text-length, line-length, lines-length, polynomial-length}
+use Rattle.sheet.proofs.LineLengths.{front, text-length, line-length, polynomial-length}
 
 module _ (p : ℕ) (small : p ≤ 2 ^ 20) where
   line-determines : {n : ℕ} {u v : List ℕ} (name : List ℕ) → length name ≡ 3 → n ≤ 8 → Words p n u → Words p n v → line p name u ≡ line p name v → u ≡ v

@@ -1,9 +1,8 @@
 -- What stands at the right of columns determines the number: behind the blanks is the first byte that is none, a digit or a minus, and there
 -- the text begins; the digits have the number's value.
 use mathlib.Core.Path.{_≡_, refl, sym, ap, _∙_}
-use mathlib.Core.List.{List, [], _∷_, _++_}
+use mathlib.Core.List.{List, _++_}
 use Prim.Native.Nat.{ℕ, zero, suc, _+_, _-_, _^_, _≤_, _<_}
-use native.Mathlib.Decide.{decLt}
 use native.Mathlib.Omega.{arith}
 use lib.IntN.{ℤ, pos, negsuc, natAbs}
 use lib.ListN.{length, getD, drop, replicate, length-append, length-replicate}
@@ -55,7 +54,7 @@ behind-blanks (suc j) (suc k) x y h l e = behind-blanks j k x y h l (ap (drop 1)
 decimal-determines : (j k : ℕ) → decimal j ≡ decimal k → j ≡ k
 decimal-determines j k e = sym (decimal-is-decimal j .value-is) ∙ ap (value 0) e ∙ decimal-is-decimal k .value-is
 
-pub signed-determines : (y z : ℤ) → signedDecimal y ≡ signedDecimal z → y ≡ z
+signed-determines : (y z : ℤ) → signedDecimal y ≡ signedDecimal z → y ≡ z
 unfolding signedDecimal
 signed-determines (pos j) (pos k) e = ap pos (decimal-determines j k e)
 signed-determines (pos j) (negsuc k) e = absurd (omega (arith, ap (λ xs. getD xs 0 0) e, decimal-head j))

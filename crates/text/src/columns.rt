@@ -3,7 +3,6 @@ ghost use mathlib.Core.Path.{_≡_};
 ghost use Prim.Native.Nat.{_+_, _^_, _≤_, _<_};
 ghost use lib.IntN.{natAbs};
 ghost use lib.ListN.{length};
-ghost use Rattle.text.specs.Digits.{decimal};
 ghost use Rattle.text.specs.Columns.{blanks, signedDecimal, rightJustified};
 ghost use Rattle.text.specs.Text.{Appended};
 use crate::bytes::put_byte;

@@ -1,5 +1,5 @@
 -- The four lists one behind another are the sheet, and fill a list of its length.
-use mathlib.Core.Path.{_≡_, sym, ap, subst, _∙_}
+use mathlib.Core.Path.{_≡_, sym, subst, _∙_}
 use mathlib.Core.List.{List, _++_}
 use Prim.Native.Nat.{ℕ, _+_, _*_, _/_, _^_, _≤_}
 use native.Mathlib.Omega.{arith}
@@ -12,7 +12,7 @@ use Rattle.text.specs.Ascii.{ascii}
 use Rattle.text.specs.Text.{Appended}
 use Rattle.text.proofs.Append.{append-both}
 use Rattle.sheet.specs.Sheet.{polynomial, sheetText, sheetLength}
-use Rattle.sheet.proofs.LineParts.{polynomial-length}
+use Rattle.sheet.proofs.LineLengths.{polynomial-length}
 
 -- a list of n words
 

@@ -1,12 +1,11 @@
 -- The call's number, and what the output list holds after it; m is the length that is asked for.
-use mathlib.Core.Path.{_≡_, refl, sym, ap, subst, _∙_}
-use mathlib.Core.Bool.{not, true, false}
+use mathlib.Core.Path.{_≡_, sym, ap, _∙_}
+use mathlib.Core.Bool.{not, false}
 use mathlib.Core.List.{List}
 use Prim.Native.Nat.{ℕ}
 use borrow.Author.Tests.{eqb-true, not-false}
 use lib.Dec.{eqb}
 use lib.ListN.{length}
-use Rattle.refusal.specs.Refusal.{written}
 use Rattle.refusal.proofs.Written.{output-new, output-old}
 use Rattle.pair.specs.Pair.{checkNumberOr}
 use Rattle.pair.specs.Theorem.{Given}

@@ -1,14 +1,14 @@
 -- The sign of a 32-bit integer and its magnitude. A signed local holds bits, and what is read back from the bits of x is x, since x fits.
 use mathlib.Core.Path.{_≡_, refl, sym, ap, subst, _∙_}
-use mathlib.Core.Bool.{Bool, true, false}
+use mathlib.Core.Bool.{true, false}
 use mathlib.Core.List.{List, [], _∷_}
-use Prim.Native.Nat.{ℕ, zero, suc, _+_, _^_, _≤_, _<_}
+use Prim.Native.Nat.{ℕ, suc, _+_, _^_, _≤_, _<_}
 use native.Mathlib.Nat as Nat
 use native.Mathlib.Omega.{arith}
 use borrow.Author.Tests.{ltb-true}
-use lib.Dec.{T, ltb}
+use lib.Dec.{T}
 use lib.IntN.{ℤ, pos, negsuc, natAbs, _-ℤ_}
-use lib.Signed.{ltZ, nonNeg, mag}
+use lib.Signed.{ltZ, nonNeg}
 use lib.ListN.{length}
 use mir.Syntax.{w32, w64}
 use mir.Val.{Fits, SFits, toZ, ofZ}
@@ -21,19 +21,13 @@ use Rattle.text.proofs.Append.{append-both}
 never : {X : Type 0} → false ≡ true → X
 never e = absurd (subst T (sym e) tt)
 
--- what is read back
-read : (P : ℤ → Type 0) (x : ℤ) → SFits w32 x → P x → P (toZ w32 (ofZ w32 x))
-read P x f h = subst P (sym (toZ-ofZ w32 x f)) h
-
-back : (P : ℤ → Type 0) (x : ℤ) → SFits w32 x → P (toZ w32 (ofZ w32 x)) → P x
-back P x f h = subst P (toZ-ofZ w32 x f) h
-
+-- a test of what is read back is a test of x
 module _ (x : ℤ) (f : SFits w32 x) where
-  pub below-zero : ltZ (toZ w32 (ofZ w32 x)) (pos 0) ≡ true → ltZ x (pos 0) ≡ true
-  below-zero = back (λ z. ltZ z (pos 0) ≡ true) x f
+  below-zero : ltZ (toZ w32 (ofZ w32 x)) (pos 0) ≡ true → ltZ x (pos 0) ≡ true
+  below-zero = subst (λ z. ltZ z (pos 0) ≡ true) (toZ-ofZ w32 x f)
 
-  pub from-zero : ltZ (toZ w32 (ofZ w32 x)) (pos 0) ≡ false → ltZ x (pos 0) ≡ false
-  from-zero = back (λ z. ltZ z (pos 0) ≡ false) x f
+  from-zero : ltZ (toZ w32 (ofZ w32 x)) (pos 0) ≡ false → ltZ x (pos 0) ≡ false
+  from-zero = subst (λ z. ltZ z (pos 0) ≡ false) (toZ-ofZ w32 x f)
 
 -- a negative number is the opposite of its magnitude
 opposite : (x : ℤ) → ltZ x (pos 0) ≡ true → pos 0 -ℤ x ≡ pos (natAbs x)
@@ -78,12 +72,12 @@ module _ (x : ℤ) (small : natAbs x < 2 ^ 31) (f : SFits w32 x) where
     same-is = ap natAbs read-same
 
 -- the text of x by its sign
-pub signed-negative : (x : ℤ) → ltZ x (pos 0) ≡ true → signedDecimal x ≡ 45 ∷ decimal (natAbs x)
+signed-negative : (x : ℤ) → ltZ x (pos 0) ≡ true → signedDecimal x ≡ 45 ∷ decimal (natAbs x)
 unfolding signedDecimal
 signed-negative (pos n) h = absurd (omega (arith, ltb-true n 0 h))
 signed-negative (negsuc n) h = refl
 
-pub signed-plain : (x : ℤ) → ltZ x (pos 0) ≡ false → signedDecimal x ≡ decimal (natAbs x)
+signed-plain : (x : ℤ) → ltZ x (pos 0) ≡ false → signedDecimal x ≡ decimal (natAbs x)
 unfolding signedDecimal
 signed-plain (pos n) h = refl
 signed-plain (negsuc n) h = never (sym h)

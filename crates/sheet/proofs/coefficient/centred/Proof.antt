@@ -1,6 +1,6 @@
 -- v where it is at most half of p, else v − p.
 use borrow.Author.Needs.{needs}
-use Rattle.sheet.proofs.SignedWord.{low-is, high-fits, high-is}
+use Rattle.sheet.proofs.coefficient.ReadBack.{low-is, high-fits, high-is}
 use Rattle.sheet.proofs.coefficient.centred.Statement.{statement}
 use Rattle.sheet.proofs.coefficient.centred.Tie as tie
 

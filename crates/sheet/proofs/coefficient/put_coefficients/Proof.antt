@@ -6,7 +6,7 @@ use native.Mathlib.Omega.{arith}
 use lib.ListN.{length, take}
 use Rattle.text.specs.Text.{Appended}
 use Rattle.sheet.specs.Sheet.{columns}
-use Rattle.sheet.proofs.Columns.{no-coefficients, next-below, coefficient-small, coefficient-fits, next-room, next-coefficient, all-coefficients}
+use Rattle.sheet.proofs.coefficient.CoefficientLoop.{no-coefficients, next-below, coefficient-small, coefficient-fits, next-room, next-coefficient, all-coefficients}
 use Rattle.sheet.proofs.coefficient.put_coefficients.Statement.{statement}
 use Rattle.sheet.proofs.coefficient.put_coefficients.Tie as tie
 

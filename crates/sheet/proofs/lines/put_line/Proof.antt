@@ -1,7 +1,7 @@
 -- The name, the coefficients, the blanks and the newline, one behind another.
 use borrow.Author.Needs.{needs}
 use native.Mathlib.Omega.{arith}
-use Rattle.sheet.proofs.LineParts.{behind-coefficients, behind-blanks, line-append}
+use Rattle.sheet.proofs.lines.LineParts.{behind-coefficients, behind-blanks, line-append}
 use Rattle.sheet.proofs.lines.put_line.Statement.{statement}
 use Rattle.sheet.proofs.lines.put_line.Tie as tie
 

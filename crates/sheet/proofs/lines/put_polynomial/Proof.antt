@@ -1,6 +1,6 @@
 -- One line for up to eight coefficients, else two.
 use borrow.Author.Needs.{needs}
-use Rattle.sheet.proofs.LineParts.{eight-taken, eight-words, eight-few, rest-words, rest-few, one-append, second-room, two-append}
+use Rattle.sheet.proofs.lines.LineParts.{eight-taken, eight-words, eight-few, rest-words, rest-few, one-append, second-room, two-append}
 use Rattle.sheet.proofs.lines.put_polynomial.Statement.{statement}
 use Rattle.sheet.proofs.lines.put_polynomial.Tie as tie
 

@@ -1,5 +1,4 @@
 -- `decimal::decimal_length` counts the digits of the tenth, and the last digit. The measure is k, of which a tenth is left.
-use borrow.Author.Needs.{needs}
 use borrow.Fn.Kinds.{In}
 use borrow.Fn.PlainCycle.{Measures, is, falls, and}
 use Prim.Native.Nat.{ℕ, _<_}
