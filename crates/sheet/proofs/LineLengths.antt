@@ -1,6 +1,6 @@
 -- Lines have 60 bytes each.
 use mathlib.Core.Path.{_≡_, sym, ap, ap₂, subst, _∙_}
-use mathlib.Core.List.{List, [], _∷_, _++_}
+use mathlib.Core.List.{List, _++_}
 use Prim.Native.Nat.{ℕ, zero, suc, _+_, _-_, _*_, _/_, _^_, _≤_, _<_}
 use native.Mathlib.Decide.{decLt}
 use native.Mathlib.Nat as Nat
@@ -9,6 +9,7 @@ use lib.ListN.{length, take, drop, length-append}
 use lib.Seq.{take-all}
 use Rattle.array.specs.Words.{Words}
 use Rattle.array.proofs.Words.{words-length, take-words, drop-words}
+use Rattle.text.specs.Ascii.{ascii}
 use Rattle.text.specs.Columns.{blanks, filled}
 use Rattle.text.proofs.ColumnDetermines.{blanks-length, filled-length}
 use Rattle.sheet.specs.Sheet.{columns, line, lines, polynomial}
@@ -28,9 +29,9 @@ module _ (p : ℕ) (small : p ≤ 2 ^ 20) where
     text-length = length-append name (columns 7 p u) ∙ ap₂ _+_ three (columns-length 5 p (seven p small) w)
 
     pub line-length : n ≤ 8 → length (line p name u) ≡ 60
-    unfolding line
+    unfolding line ascii
     line-length few =
-        length-append (filled 59 (name ++ columns 7 p u)) (10 ∷ []) ∙ ap (λ k. k + 1) (filled-length 59 (name ++ columns 7 p u) (omega (arith, text-length)))
+        length-append (filled 59 (name ++ columns 7 p u)) (ascii "\n") ∙ ap (λ k. k + 1) (filled-length 59 (name ++ columns 7 p u) (omega (arith, text-length)))
 
   lines-length : (k : ℕ) {n : ℕ} {u : List ℕ} (name : List ℕ) → length name ≡ 3 → Words p n u → length (lines p k name u) ≡ k * 60
   unfolding lines

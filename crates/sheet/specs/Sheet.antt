@@ -28,7 +28,7 @@ columns w p [] = []
 columns w p (v ∷ u) = rightJustified w (signedDecimal (centred p v)) ++ columns w p u
 
 unfoldable pub line : ℕ → List ℕ → List ℕ → List ℕ
-line p name u = filled 59 (name ++ columns 7 p u) ++ (10 ∷ [])
+line p name u = filled 59 (name ++ columns 7 p u) ++ ascii "\n"
 
 unfoldable pub lines : ℕ → ℕ → List ℕ → List ℕ → List ℕ
 lines p zero name u = []

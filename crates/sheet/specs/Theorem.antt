@@ -1,6 +1,7 @@
 -- What is proved of the sheet, for every p up to 2^20, every n and all lists of n words below p.
---   SheetHasLength    the sheet has its length, 240 bytes for up to eight coefficients, 480 for nine to sixteen
---   SheetDetermines   "With p and n known, the sheet must determine the four lists."
+--   Lists p n t1 t2 s r   each of the four is n words below p
+--   SheetHasLength        the sheet has its length, 240 bytes for up to eight coefficients, 480 for nine to sixteen
+--   SheetDetermines       "With p and n known, the sheet must determine the four lists."
 use mathlib.Core.Path.{_≡_}
 use mathlib.Core.List.{List}
 use Prim.Native.Nat.{ℕ, _^_, _≤_}

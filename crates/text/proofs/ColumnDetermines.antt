@@ -8,6 +8,7 @@ use lib.IntN.{ℤ, pos, negsuc, natAbs}
 use lib.ListN.{length, getD, drop, replicate, length-append, length-replicate}
 use Rattle.text.specs.Digits.{decimal}
 use Rattle.text.specs.Columns.{blanks, signedDecimal, rightJustified, filled}
+use Rattle.text.specs.Text.{Appended}
 use Rattle.text.specs.Theorem.{value, ColumnDetermines}
 use Rattle.text.proofs.DecimalDigits.{decimal-length}
 use Rattle.text.proofs.Theorem.{decimal-is-decimal}
@@ -15,6 +16,9 @@ use Rattle.text.proofs.Theorem.{decimal-is-decimal}
 pub blanks-length : (k : ℕ) → length (blanks k) ≡ k
 unfolding blanks
 blanks-length k = length-replicate {A = ℕ} k 32
+
+pub blanks-end : (k : ℕ) {at end : ℕ} {before after : List ℕ} → Appended at (blanks k) before after end → end ≡ at + k
+blanks-end k a = omega (arith, a .end-is, blanks-length k)
 
 -- how long columns are
 

@@ -1,4 +1,4 @@
--- Columns of text, as ASCII codes.
+-- Columns of text, as ASCII codes: 32 is the blank, 45 the minus.
 --   blanks k             k blanks
 --   signedDecimal z      the decimal digits of z, behind a minus where z is negative
 --   rightJustified w x   the text x at the right of w columns

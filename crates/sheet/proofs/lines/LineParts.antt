@@ -7,10 +7,10 @@ use lib.ListN.{length, take, drop, length-drop}
 use lib.Seq.{take-all, length-take-le}
 use Rattle.array.specs.Words.{Words}
 use Rattle.array.proofs.Words.{take-words, drop-words}
+use Rattle.text.specs.Ascii.{ascii}
 use Rattle.text.specs.Columns.{blanks, filled}
 use Rattle.text.specs.Text.{Appended}
 use Rattle.text.proofs.Append.{append-both}
-use Rattle.text.proofs.ColumnDetermines.{blanks-length}
 use Rattle.sheet.specs.Sheet.{columns, line, lines, polynomial}
 use Rattle.sheet.proofs.Columns.{seven, columns-length}
 use Rattle.sheet.proofs.LineLengths.{text-length, line-length}
@@ -21,13 +21,10 @@ pub behind-coefficients : {p at start end : ℕ} {name u before named between : 
     → Appended start (columns 7 p u) named between end → p ≤ 2 ^ 20 → Words p (length u) u → length name ≡ 3 → end ≡ at + (3 + length u * 7)
 behind-coefficients {p} a b small w three = omega (arith, a .end-is, b .end-is, columns-length 5 p (seven p small) w)
 
-pub behind-blanks : (k : ℕ) {end last : ℕ} {between full : List ℕ} → Appended end (blanks k) between full last → last ≡ end + k
-behind-blanks k c = omega (arith, c .end-is, blanks-length k)
-
 pub line-append : (p at start end last r : ℕ) (name u before named between full after : List ℕ) → p ≤ 2 ^ 20 → Words p (length u) u → length u ≤ 8 → length name ≡ 3
     → Appended at name before named start → Appended start (columns 7 p u) named between end → Appended end (blanks (56 - 7 * length u)) between full last
     → Appended last (10 ∷ []) full after r → Appended at (line p name u) before after r
-unfolding line filled
+unfolding line filled ascii
 line-append p at start end last r name u before named between full after small w few three a b c e =
     let fill : 56 - 7 * length u ≡ 59 - length (name ++ columns 7 p u) = omega (arith, text-length p small name three w) in
     let text : Appended at (name ++ columns 7 p u) before between end = append-both at start end name (columns 7 p u) before named between a b in

@@ -8,7 +8,7 @@ use lib.ListN.{length, replicate}
 use Rattle.text.specs.Columns.{blanks}
 use Rattle.text.specs.Text.{Appended}
 use Rattle.text.proofs.Append.{append-nothing, append-both}
-use Rattle.text.proofs.ColumnDetermines.{blanks-length}
+use Rattle.text.proofs.ColumnDetermines.{blanks-end}
 
 one-behind : (k : ℕ) → replicate {A = ℕ} (suc k) 32 ≡ replicate k 32 ++ (32 ∷ [])
 one-behind zero = refl
@@ -25,7 +25,7 @@ blanks-next at i m r before between after h k = rw (add-one i, one-behind i) (ap
 
 pub blanks-room : (at i k m : ℕ) (before after : List ℕ) → Appended at (blanks i) before after m → i < k → length after ≡ length before
     → at + k ≤ length before → m < length after
-blanks-room at i k m before after h l same room = omega (arith, h .end-is, blanks-length i)
+blanks-room at i k m before after h l same room = omega (arith, blanks-end i h)
 
 pub blanks-all : (at i k m : ℕ) (before after : List ℕ) → Appended at (blanks i) before after m → i ≤ k → k ≤ i → Appended at (blanks k) before after m
 blanks-all at i k m before after h l l′ = let same : i ≡ k = omega arith in rw same at h

@@ -11,7 +11,7 @@ use mir.ValLaws.{toZ-ofZ}
 use Rattle.text.specs.Columns.{blanks, signedDecimal, rightJustified}
 use Rattle.text.specs.Text.{Appended}
 use Rattle.text.proofs.Append.{append-both}
-use Rattle.text.proofs.ColumnDetermines.{blanks-length}
+use Rattle.text.proofs.ColumnDetermines.{blanks-end}
 
 module _ (x : ℤ) (f : SFits w32 x) where
   same-text : signedDecimal (toZ w32 (ofZ w32 x)) ≡ signedDecimal x
@@ -29,7 +29,7 @@ module _ (x : ℤ) (f : SFits w32 x) where
 
     -- where the number begins
     pub right-place : (at end : ℕ) (before between : List ℕ) → Appended at (blanks (width - m)) before between end → (end ≡ at + (width - m)) × (m ≤ width)
-    right-place at end before between a = (omega (arith, a .end-is, blanks-length (width - m)), right-short)
+    right-place at end before between a = (blanks-end (width - m) a, right-short)
 
     module _ (at end : ℕ) (before between : List ℕ) (a : Appended at (blanks (width - m)) before between end) where
       pub right-append : (r : ℕ) (after : List ℕ) → Appended end (signedDecimal (toZ w32 (ofZ w32 x))) between after r

@@ -34,7 +34,7 @@ pub fn run(rounds: u64, tally: &mut Tally) {
     let random = &mut Random::new(0x9e37_79b9_7f4a_7c15);
     for p in [2, 3, 65_521] {
         for n in 1..=16 {
-            for _ in 0..rounds.div_ceil(100) {
+            for _ in 0..rounds / 100 {
                 let t1 = around_half(random, p, n);
                 let case = changed_variable(random, p, n, t1);
                 compare_sheet(&case, sheet_length(n), tally);

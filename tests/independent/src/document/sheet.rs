@@ -30,7 +30,7 @@ fn text(p: u32, lists: [&[u16]; 4]) -> String {
 
 /// The number, and what the output list holds after the call.
 pub fn sheet(p: u32, n: u32, lists: [&[u16]; 4], out: &[u8]) -> (u32, Vec<u8>) {
-    let lines = 4 * (n as usize).div_ceil(8);
+    let lines = 4 * ((n as usize + 7) / 8);
     let wrong_length = || u32::from(out.len() != 60 * lines || lists.iter().any(|list| list.len() != n as usize)) * 3;
     let large_word = || u32::from(lists.iter().any(|list| list.iter().any(|&v| u32::from(v) >= p))) * 4;
     let no_pair = || u32::from(!congruences(p, lists[0], lists[1], lists[2], lists[3])) * 8;

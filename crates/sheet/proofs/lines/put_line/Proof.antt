@@ -1,7 +1,8 @@
 -- The name, the coefficients, the blanks and the newline, one behind another.
 use borrow.Author.Needs.{needs}
 use native.Mathlib.Omega.{arith}
-use Rattle.sheet.proofs.lines.LineParts.{behind-coefficients, behind-blanks, line-append}
+use Rattle.text.proofs.ColumnDetermines.{blanks-end}
+use Rattle.sheet.proofs.lines.LineParts.{behind-coefficients, line-append}
 use Rattle.sheet.proofs.lines.put_line.Statement.{statement}
 use Rattle.sheet.proofs.lines.put_line.Tie as tie
 
@@ -31,7 +32,7 @@ put-byte-requires c κs =
     omega (
       arith,
       behind-coefficients (name .put .ensures) (coefficients .put-coefficients .ensures) (search needs) (search needs) (search needs),
-      behind-blanks _ (fill .put-blanks .ensures),
+      blanks-end _ (fill .put-blanks .ensures),
     )
 
 same-length : tie.Need-same-length
