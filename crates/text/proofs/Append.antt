@@ -24,14 +24,14 @@ append-both at m r xs ys before between after h k =
       list-is = k .list-is ∙ ap (λ l. l ++ ys) (h .list-is) ∙ append-assoc (take at before) xs ys;
     }
 
--- a loop that appends the image of a list under f, element by element
-module _ (f : List ℕ → List ℕ) (joins : (xs ys : List ℕ) → f (xs ++ ys) ≡ f xs ++ f ys) where
-  pub append-next : (at i m r : ℕ) (xs before between after : List ℕ) → Appended at (f (take i xs)) before between m → i < length xs
-      → Appended m (f (getD xs i 0 ∷ [])) between after r → Appended at (f (take (i + 1) xs)) before after r
+-- a loop that appends the image of a list under f, element by element; z stands past the end of the list
+module _ {A : Type 0} (z : A) (f : List A → List ℕ) (joins : (xs ys : List A) → f (xs ++ ys) ≡ f xs ++ f ys) where
+  pub append-next : (at i m r : ℕ) (xs : List A) (before between after : List ℕ) → Appended at (f (take i xs)) before between m → i < length xs
+      → Appended m (f (getD xs i z ∷ [])) between after r → Appended at (f (take (i + 1) xs)) before after r
   append-next at i m r xs before between after h l k =
-      rw (add-one i, take-suc xs i 0 l, joins) (append-both at m r (f (take i xs)) (f (getD xs i 0 ∷ [])) before between after h k)
+      rw (add-one i, take-suc xs i z l, joins) (append-both at m r (f (take i xs)) (f (getD xs i z ∷ [])) before between after h k)
 
-  pub append-all : (at i m : ℕ) (xs before after : List ℕ) → Appended at (f (take i xs)) before after m → i ≤ length xs → length xs ≤ i
+  pub append-all : (at i m : ℕ) (xs : List A) (before after : List ℕ) → Appended at (f (take i xs)) before after m → i ≤ length xs → length xs ≤ i
       → Appended at (f xs) before after m
   append-all at i m xs before after h l k = let same : i ≡ length xs = omega arith in rw (same, take-length) at h
 

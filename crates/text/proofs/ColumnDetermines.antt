@@ -38,7 +38,7 @@ signed-length d (negsuc k) h = omega (arith, decimal-length d (suc k) h)
 
 -- the text begins with a byte that is no blank
 
-decimal-head : (k : ℕ) → 48 ≤ getD (decimal k) 0 0
+pub decimal-head : (k : ℕ) → 48 ≤ getD (decimal k) 0 0
 decimal-head zero = omega (arith, ap (λ ds. getD ds 0 0) (decimal-is-decimal 0 .zero-is refl))
 decimal-head (suc k) = omega (arith, decimal-is-decimal (suc k) .first (omega arith))
 
@@ -55,7 +55,7 @@ behind-blanks (suc j) (suc k) x y h l e = behind-blanks j k x y h l (ap (drop 1)
 
 -- the text determines the number
 
-decimal-determines : (j k : ℕ) → decimal j ≡ decimal k → j ≡ k
+pub decimal-determines : (j k : ℕ) → decimal j ≡ decimal k → j ≡ k
 decimal-determines j k e = sym (decimal-is-decimal j .value-is) ∙ ap (value 0) e ∙ decimal-is-decimal k .value-is
 
 signed-determines : (y z : ℤ) → signedDecimal y ≡ signedDecimal z → y ≡ z

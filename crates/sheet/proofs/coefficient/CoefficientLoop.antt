@@ -47,7 +47,7 @@ module _ (p at i m : ℕ) (u before between : List ℕ) (small : p ≤ 2 ^ 20) (
   pub next-coefficient : (x : ℤ) (r : ℕ) (after : List ℕ) → x ≡ centred p (getD u i 0) → Appended m (rightJustified 7 (signedDecimal (toZ w32 (ofZ w32 x)))) between after r
       → Appended at (columns 7 p (take (i + 1) u)) before after r
   next-coefficient x r after e b =
-      append-next (columns 7 p) (columns-append 7 p) at i m r u before between after a l
+      append-next 0 (columns 7 p) (columns-append 7 p) at i m r u before between after a l
       (subst (λ t. Appended m t between after r) (coefficient-text p (getD u i 0) x e (words-at w i l) small) b)
 
 pub no-coefficients : (p at : ℕ) (u before : List ℕ) → Appended at (columns 7 p (take 0 u)) before before at
@@ -56,4 +56,4 @@ no-coefficients p at u before = append-nothing at before
 
 pub all-coefficients : (p at i m : ℕ) (u before after : List ℕ) → Appended at (columns 7 p (take i u)) before after m → i ≤ length u → length u ≤ i
     → Appended at (columns 7 p u) before after m
-all-coefficients p at i m u before after = append-all (columns 7 p) (columns-append 7 p) at i m u before after
+all-coefficients p at i m u before after = append-all 0 (columns 7 p) (columns-append 7 p) at i m u before after

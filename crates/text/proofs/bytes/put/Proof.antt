@@ -30,13 +30,13 @@ loop-less : tie.Need-loop-less Inv-loop μ-loop
 loop-less c = search needs
 
 loop-again : tie.Need-loop-again Inv-loop μ-loop
-loop-again c = (search needs, search needs, search (append-next (λ l. l) (λ xs ys. refl)))
+loop-again c = (search needs, search needs, search (append-next 0 (λ l. l) (λ xs ys. refl)))
 
 same-length : tie.Need-same-length Inv-loop μ-loop
 same-length c = search needs
 
 returns : tie.Need-returns Inv-loop μ-loop
-returns c = search (append-all (λ l. l) (λ xs ys. refl))
+returns c = search (append-all 0 (λ l. l) (λ xs ys. refl))
 
 pub put-spec : {M : Type 1} → statement M
 put-spec =

@@ -32,13 +32,13 @@ loop-less : tie.Need-loop-less Inv-loop μ-loop
 loop-less c = search needs
 
 loop-again : tie.Need-loop-again Inv-loop μ-loop
-loop-again c = (search needs, search needs, search (append-next hexadecimal hexadecimal-append))
+loop-again c = (search needs, search needs, search (append-next 0 hexadecimal hexadecimal-append))
 
 same-length : tie.Need-same-length Inv-loop μ-loop
 same-length c = search needs
 
 returns : tie.Need-returns Inv-loop μ-loop
-returns c = search (append-all hexadecimal hexadecimal-append)
+returns c = search (append-all 0 hexadecimal hexadecimal-append)
 
 pub put-hexadecimal-spec : {M : Type 1} → statement M
 put-hexadecimal-spec =

@@ -1,0 +1,2 @@
+-- What the proofs of `report` use.
+mod Laws
