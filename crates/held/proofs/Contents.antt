@@ -16,7 +16,7 @@ use Rattle.array.specs.Words.{Words}
 use Rattle.array.specs.Array.{padded}
 use Rattle.array.proofs.Words.{words-length}
 use Rattle.array.proofs.Padded.{take-padded}
-use Rattle.held.specs.Held.{View, empty, loaded, paired, valid, ifValid, viewAs, t1Of, t2Of, sOf, rOf, view, loadedHeld, pairedHeld}
+use Rattle.held.specs.Held.{View, empty, loaded, paired, valid, validAs, validHeld, ifValid, viewAs, t1Of, t2Of, sOf, rOf, view, loadedHeld, pairedHeld}
 use Rattle.held.specs.Theorem.{Arrays}
 use Rattle.held.specs.ViewState.{viewState}
 use Rattle.held.specs.declared.Held.{Held}
@@ -32,14 +32,15 @@ data Counts (x : Held) : View → Type 0 where
       → Counts x (paired (x .p) (x .n) (t1Of x) (t2Of x) (sOf x) (rOf x))
 
 counts : (x : Held) → Counts x (view x)
-unfolding view viewAs
+unfolding view viewAs validHeld validAs
 counts x = go (x .state)
   where
     if-valid : (v : View) (b : Bool) → (b ≡ true → Counts x v) → Counts x (ifValid b v)
     if-valid v true f = f refl
     if-valid v false f = as-empty
 
-    go : (state : State) → Counts x (viewAs state (x .p) (x .n) (t1Of x) (t2Of x) (sOf x) (rOf x))
+    go : (state : State)
+        → Counts x (ifValid (validAs state (x .p) (x .n) (t1Of x) (t2Of x) (sOf x) (rOf x)) (viewAs state (x .p) (x .n) (t1Of x) (t2Of x) (sOf x) (rOf x)))
     go Empty = as-empty
     go Loaded = if-valid _ _ as-loaded
     go Paired = if-valid _ _ as-paired
@@ -101,10 +102,10 @@ pub front-held : {p n : ℕ} {u : List ℕ} → Words p n u → take n (padded u
 front-held {n = n} {u = u} w = take-padded n u (words-length w)
 
 pub view-loaded : {p n : ℕ} {t1 t2 : List ℕ} → Models p n t1 t2 → view (loadedHeld p n t1 t2) ≡ loaded p n t1 t2
-unfolding view loadedHeld viewAs
+unfolding view loadedHeld viewAs validHeld validAs
 view-loaded {p} {n} {t1} {t2} m = rw (front-held (m .modulus1), front-held (m .modulus2), sent-valid p n _ _ (models-sent p n t1 t2 [] m tt))
 
 pub view-paired : {p n : ℕ} {t1 t2 s r : List ℕ} → Given p n t1 t2 s r → view (pairedHeld p n t1 t2 s r) ≡ paired p n t1 t2 s r
-unfolding view pairedHeld viewAs
+unfolding view pairedHeld viewAs validHeld validAs
 view-paired {p} {n} {t1} {t2} {s} {r} g =
     rw (front-held (g .models .modulus1), front-held (g .models .modulus2), front-held (g .words-s), front-held (g .words-r), sent-valid p n _ _ (all-sent p n t1 t2 s r g))

@@ -5,7 +5,7 @@ use Prim.Native.Nat.{ℕ, zero, suc}
 use Rattle.pair.specs.Pair.{checkNumber}
 use Rattle.pair.specs.Theorem.{Given}
 use Rattle.finder.proofs.Theorem.{accepted-pair}
-use Rattle.held.specs.Held.{View, empty, loaded, paired, view, viewAs, t1Of, t2Of, sOf, rOf, newHeld, loadedHeld, pairedHeld, answer, loadFrom, load, proposeFrom, propose, findFrom, find}
+use Rattle.held.specs.Held.{View, empty, loaded, paired, view, viewAs, validHeld, validAs, t1Of, t2Of, sOf, rOf, newHeld, loadedHeld, pairedHeld, answer, loadFrom, load, proposeFrom, propose, findFrom, find}
 use Rattle.held.specs.Theorem.{Reached, is-new, is-loaded, is-paired, CallsReach, RefusalsKeep, CountsAsHeld}
 use Rattle.held.specs.ViewState.{viewState}
 use Rattle.held.specs.declared.Held.{Held}
@@ -15,7 +15,7 @@ use Rattle.held.proofs.Accepted.{loaded-models, check-models, accepted-
 use Rattle.held.proofs.Contents.{front-held, view-loaded, view-paired}
 
 view-new : view newHeld ≡ empty
-unfolding view viewAs
+unfolding view viewAs validHeld validAs
 view-new = refl
 
 pub counts-as-held : CountsAsHeld

@@ -2,8 +2,8 @@
 --   View                        what a value counts as
 --   valid p n xss               1, 2 and 4 refuse neither p nor n nor a word of the lists
 --   t1Of x, t2Of x, sOf x, rOf x    the first n words of the arrays of x
---   view x                      what x counts as: a value with a p, n or coefficient, of those that its state has, that 1, 2 or 4 refuses counts as a
---                               new one, which is empty
+--   validHeld x                 1, 2 and 4 refuse no item that the state of x has
+--   view x                      what x counts as: a value with a p, n or coefficient that 1, 2 or 4 refuses counts as a new one, which is empty
 --   newHeld, loadedHeld, pairedHeld    the values that the calls make, with zeros where a list ends or is not held
 --   answer k next taken         number k: the next value where k is 0, else the value taken
 --   load x p n t1 t2            load: empty to loaded; 23, 1 to 4
@@ -30,15 +30,6 @@ pub data View : Type 0 where
 unfoldable pub valid : ℕ → ℕ → List (List ℕ) → Bool
 valid p n xss = not (badPrime p) && not (badDegree n) && not (badWord p xss)
 
-abbrev pub ifValid : Bool → View → View
-ifValid true v = v
-ifValid false v = empty
-
-unfoldable pub viewAs : State → ℕ → ℕ → List ℕ → List ℕ → List ℕ → List ℕ → View
-viewAs Empty p n t1 t2 s r = empty
-viewAs Loaded p n t1 t2 s r = ifValid (valid p n (t1 ∷ t2 ∷ [])) (loaded p n t1 t2)
-viewAs Paired p n t1 t2 s r = ifValid (valid p n (t1 ∷ t2 ∷ s ∷ r ∷ [])) (paired p n t1 t2 s r)
-
 abbrev pub t1Of : Held → List ℕ
 t1Of x = take (x .n) (x .t1)
 
@@ -51,8 +42,25 @@ sOf x = take (x .n) (x .s)
 abbrev pub rOf : Held → List ℕ
 rOf x = take (x .n) (x .r)
 
+unfoldable pub validAs : State → ℕ → ℕ → List ℕ → List ℕ → List ℕ → List ℕ → Bool
+validAs Empty p n t1 t2 s r = true
+validAs Loaded p n t1 t2 s r = valid p n (t1 ∷ t2 ∷ [])
+validAs Paired p n t1 t2 s r = valid p n (t1 ∷ t2 ∷ s ∷ r ∷ [])
+
+unfoldable pub validHeld : Held → Bool
+validHeld x = validAs (x .state) (x .p) (x .n) (t1Of x) (t2Of x) (sOf x) (rOf x)
+
+unfoldable pub viewAs : State → ℕ → ℕ → List ℕ → List ℕ → List ℕ → List ℕ → View
+viewAs Empty p n t1 t2 s r = empty
+viewAs Loaded p n t1 t2 s r = loaded p n t1 t2
+viewAs Paired p n t1 t2 s r = paired p n t1 t2 s r
+
+abbrev pub ifValid : Bool → View → View
+ifValid true v = v
+ifValid false v = empty
+
 unfoldable pub view : Held → View
-view x = viewAs (x .state) (x .p) (x .n) (t1Of x) (t2Of x) (sOf x) (rOf x)
+view x = ifValid (validHeld x) (viewAs (x .state) (x .p) (x .n) (t1Of x) (t2Of x) (sOf x) (rOf x))
 
 abbrev pub zeros : List ℕ
 zeros = replicate largestDegree 0

@@ -14,7 +14,7 @@ ghost use Prim.Native.Nat.{_≤_};
 ghost use lib.ListN.{take};
 ghost use Rattle.refusal.specs.Refusal.{badWord, largestDegree};
 ghost use Rattle.held.specs.ViewState.{viewState};
-ghost use Rattle.held.specs.Held.{view, valid};
+ghost use Rattle.held.specs.Held.{view, valid, validHeld};
 
 // Whether 4 refuses none of the first n words of two arrays.
 fn both_below(p: u32, n: u32, a: [Word; DEGREE], b: [Word; DEGREE]) -> bool
@@ -54,9 +54,9 @@ fn pair_valid(
     both_below(p, n, s, r)
 }
 
-// The state of what a value counts as.
-pub fn counts_as(x: Held) -> State
-    ensures { λ r. ⌜ r ≡ viewState (view x) ⌝ }
+// Whether 1, 2 and 4 refuse no item that the state of x has.
+pub fn is_valid(x: Held) -> bool
+    ensures { λ r. ⌜ r ≡ validHeld x ⌝ }
 {
     let state = x.state;
     let t1 = x.t1;
@@ -64,20 +64,15 @@ pub fn counts_as(x: Held) -> State
     let s = x.s;
     let r = x.r;
     match state {
-        State::Empty => State::Empty,
-        State::Loaded => {
-            if models_valid(x.p, x.n, t1, t2) {
-                State::Loaded
-            } else {
-                State::Empty
-            }
-        }
-        State::Paired => {
-            if pair_valid(x.p, x.n, t1, t2, s, r) {
-                State::Paired
-            } else {
-                State::Empty
-            }
-        }
+        State::Empty => true,
+        State::Loaded => models_valid(x.p, x.n, t1, t2),
+        State::Paired => pair_valid(x.p, x.n, t1, t2, s, r),
     }
+}
+
+// The state of what a value counts as.
+pub fn counts_as(x: Held) -> State
+    ensures { λ r. ⌜ r ≡ viewState (view x) ⌝ }
+{
+    if is_valid(x) { x.state } else { State::Empty }
 }
