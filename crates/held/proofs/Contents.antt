@@ -2,6 +2,7 @@
 --   Counts x v                  v is empty, or what the fields of x hold, and 1, 2 and 4 refuse nothing of it
 --   empty-view, loaded-view, paired-view    what x counts as, by the state of that
 --   paired-given                            one that counts as paired holds models and lists of n words below p for S and R
+--   valid-state, invalid-view               a valid value counts as its state says, any other as empty
 --   view-loaded, view-paired                what calls make counts as what it holds
 use mathlib.Core.Path.{_≡_, refl, sym, _∙_}
 use mathlib.Core.Bool.{Bool, true, false}
@@ -87,6 +88,23 @@ module _ (x : Held) (state : State) (e : state ≡ viewState (view x)) where
   pub paired-valid : state ≡ Paired → valid (x .p) (x .n) (t1Of x ∷ t2Of x ∷ sOf x ∷ rOf x ∷ []) ≡ true
   paired-valid h = as-paired-is h .1
 
+-- a valid value counts as its state says
+
+as-its-state : (state : State) (p n : ℕ) (t1 t2 s r : List ℕ) → state ≡ viewState (viewAs state p n t1 t2 s r)
+unfolding viewState viewAs
+as-its-state Empty p n t1 t2 s r = refl
+as-its-state Loaded p n t1 t2 s r = refl
+as-its-state Paired p n t1 t2 s r = refl
+
+module _ (x : Held) where
+  pub valid-state : validHeld x ≡ true → x .state ≡ viewState (view x)
+  unfolding view
+  valid-state h = rw h (as-its-state (x .state) _ _ _ _ _ _)
+
+  pub invalid-view : validHeld x ≡ false → view x ≡ empty
+  unfolding view
+  invalid-view h = rw h
+
 pub paired-given : (x : Held) → Arrays x → (state : State) → state ≡ viewState (view x) → state ≡ Paired
     → Given (x .p) (x .n) (t1Of x) (t2Of x) (sOf x) (rOf x)
 paired-given x arrays state e h =
@@ -101,11 +119,20 @@ paired-given x arrays state e h =
 pub front-held : {p n : ℕ} {u : List ℕ} → Words p n u → take n (padded u) ≡ u
 front-held {n = n} {u = u} w = take-padded n u (words-length w)
 
+pub loaded-held-valid : {p n : ℕ} {t1 t2 : List ℕ} → Models p n t1 t2 → validHeld (loadedHeld p n t1 t2) ≡ true
+unfolding validHeld validAs loadedHeld
+loaded-held-valid {p} {n} {t1} {t2} m = rw (front-held (m .modulus1), front-held (m .modulus2)) (sent-valid p n _ _ (models-sent p n t1 t2 [] m tt))
+
+pub paired-held-valid : {p n : ℕ} {t1 t2 s r : List ℕ} → Given p n t1 t2 s r → validHeld (pairedHeld p n t1 t2 s r) ≡ true
+unfolding validHeld validAs pairedHeld
+paired-held-valid {p} {n} {t1} {t2} {s} {r} g =
+    rw (front-held (g .models .modulus1), front-held (g .models .modulus2), front-held (g .words-s), front-held (g .words-r)) (sent-valid p n _ _ (all-sent p n t1 t2 s r g))
+
 pub view-loaded : {p n : ℕ} {t1 t2 : List ℕ} → Models p n t1 t2 → view (loadedHeld p n t1 t2) ≡ loaded p n t1 t2
-unfolding view loadedHeld viewAs validHeld validAs
-view-loaded {p} {n} {t1} {t2} m = rw (front-held (m .modulus1), front-held (m .modulus2), sent-valid p n _ _ (models-sent p n t1 t2 [] m tt))
+unfolding view viewAs loadedHeld
+view-loaded m = rw (loaded-held-valid m, front-held (m .modulus1), front-held (m .modulus2))
 
 pub view-paired : {p n : ℕ} {t1 t2 s r : List ℕ} → Given p n t1 t2 s r → view (pairedHeld p n t1 t2 s r) ≡ paired p n t1 t2 s r
-unfolding view pairedHeld viewAs validHeld validAs
-view-paired {p} {n} {t1} {t2} {s} {r} g =
-    rw (front-held (g .models .modulus1), front-held (g .models .modulus2), front-held (g .words-s), front-held (g .words-r), sent-valid p n _ _ (all-sent p n t1 t2 s r g))
+unfolding view viewAs pairedHeld
+view-paired g =
+    rw (paired-held-valid g, front-held (g .models .modulus1), front-held (g .models .modulus2), front-held (g .words-s), front-held (g .words-r))

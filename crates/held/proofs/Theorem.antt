@@ -1,5 +1,6 @@
 -- The proofs of what specs/Theorem.antt states.
 use mathlib.Core.Path.{_≡_, refl, sym}
+use mathlib.Core.Bool.{true}
 use mathlib.Core.List.{List}
 use Prim.Native.Nat.{ℕ, zero, suc}
 use Rattle.pair.specs.Pair.{checkNumber}
@@ -12,7 +13,7 @@ use Rattle.held.specs.declared.Held.{Held}
 use Rattle.held.specs.declared.State.the-variants.{Paired}
 use Rattle.held.proofs.Answer.{answer-keeps}
 use Rattle.held.proofs.Accepted.{loaded-models, check-models, accepted-given}
-use Rattle.held.proofs.Contents.{front-held, view-loaded, view-paired}
+use Rattle.held.proofs.Contents.{front-held, loaded-held-valid, paired-held-valid, view-loaded, view-paired}
 
 view-new : view newHeld ≡ empty
 unfolding view viewAs validHeld validAs
@@ -89,6 +90,13 @@ calls-reach =
       propose-reaches = propose-reaches;
       find-reaches = find-reaches;
     }
+
+-- a value that is reached is valid
+pub reached-valid : {x : Held} → Reached x → validHeld x ≡ true
+unfolding validHeld validAs
+reached-valid is-new = refl
+reached-valid (is-loaded p n t1 t2 m) = loaded-held-valid m
+reached-valid (is-paired p n t1 t2 s r h) = paired-held-valid (accepted-given p n 0 t1 t2 s r (sym h) refl)
 
 -- a value that is reached and counts as paired has a pair that the checker accepts
 pub reached-accepted : {x : Held} → Reached x → viewState (view x) ≡ Paired → checkNumber (x .p) (x .n) (t1Of x) (t2Of x) (sOf x) (rOf x) ≡ 0

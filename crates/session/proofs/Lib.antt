@@ -1,4 +1,6 @@
--- What is proved of sessions.
+-- What is proved of sessions: what one counts as (CountsAs), answers (Answer), conversions (Conversion), tables that come back (RoundTrip), and the
+-- theorems (Theorem).
+mod CountsAs
+mod Answer
 mod Conversion
-mod RoundTrip
-pub mod Theorem
+mod Reporting

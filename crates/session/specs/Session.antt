@@ -1,62 +1,114 @@
--- The session (document 01, "The session"): a value around what is held, whose calls are those of the crate held. "The calls take a session and
--- give the next one."
---   newSession                  a new session starts empty
+-- The session (document 01, "The session"; document 02, S-2): a value around what is held and the ledger. "The calls take a session and give the next
+-- one."
+--   newSession                  "A new session starts empty"; "only a new session begins without records"
+--   validSession x              1, 2 and 4 refuse no item of x, and none is past its limit: the records are up to 512
+--   counted x                   what x counts as: a value made otherwise "counts as a new one"
 --   withHeld x h                x with h for what is held
---   stepWith x y                the answer of x where what is held answers y
+--   answer k next taken         number k: the next session where k is 0, else the session taken
+--   stepWith x y                the answer where what x holds answers y
 --   load x p n t1 t2            load: empty to loaded; 23, 1 to 4
 --   propose x s r               propose S, R: loaded to paired if the checker accepts; 21, 24, 3, 4, 8
 --   find x                      find: loaded to paired with the finder's pair; 21, 24, 5, 6, 7
---   convertNumber v table out   the number of a conversion, by what is held: 21, 22, 9, 10, 4
+--   orElse k rest               the number k, or what comes after it where k is 0
+--   convertFrom v k table out   the number of a conversion, by what is held and the number of records: 21, 22, 9, 10, 4, 25
+--   convertNumber x table out   that of x
 --   outputBy x t s table out    what the list lent to a conversion by the map u ↦ u(S) modulo T then holds: the table converted, or what it held
---   convert x table out         the answer of forward and of back: the number, and the session taken
+--   recorded x d k              x with one record more, of k residues in the direction d
+--   convert d x table out       the answer of forward and of back: "Every conversion that succeeds adds one record, also an empty one"
 --   forwardOutput x table out   what the list lent to forward then holds: the output by S, modulo T2
 --   backOutput x table out      the same of back: by R, modulo T1
---   clear x                     any state to empty; it never refuses
+--   reportText x                the report of the records that count
+--   reportNumber x out          the report's number: "3 if its output list is not of exactly that length"
+--   report x out                its answer: the number, and the session taken, "allowed in every state"
+--   reportOutput x out          what the list lent to it then holds
+--   clear x                     any state to empty; it never refuses, and "keeps the ledger"
+use mathlib.Core.Bool.{Bool, true, false, _&&_, not}
 use mathlib.Core.List.{List}
-use Prim.Native.Nat.{ℕ}
-use Rattle.refusal.specs.Refusal.{written}
+use Prim.Native.Nat.{ℕ, zero, suc, _/_}
+use lib.Dec.{leb, eqb}
+use lib.ListN.{length}
+use Rattle.refusal.specs.Refusal.{refuse, written}
 use Rattle.held.specs.Held as Held
-use Rattle.held.specs.Held.{View, empty, loaded, paired, view, t1Of, t2Of, sOf, rOf, newHeld}
+use Rattle.held.specs.Held.{View, empty, loaded, paired, validHeld, view, t1Of, t2Of, sOf, rOf, newHeld}
 use Rattle.held.specs.declared.Held.{Held}
 use Rattle.held.specs.declared.HeldStep.{HeldStep}
+use Rattle.ledger.specs.Ledger as Ledger
+use Rattle.ledger.specs.Ledger.{mostRecords, newLedger, recordsOf, added}
+use Rattle.ledger.specs.declared.Direction.{Direction}
 use Rattle.table.specs.Table.{converted, tableNumber}
 use Rattle.session.specs.declared.Session.{Session}
 use Rattle.session.specs.declared.Step.{Step}
 
 abbrev pub newSession : Session
-newSession = record { held = newHeld }
+newSession = record { held = newHeld; ledger = newLedger }
+
+unfoldable pub validSession : Session → Bool
+validSession x = leb (x .ledger .count) mostRecords && validHeld (x .held)
+
+abbrev pub orNew : Bool → Session → Session
+orNew true x = x
+orNew false x = newSession
+
+unfoldable pub counted : Session → Session
+counted x = orNew (validSession x) x
 
 abbrev pub withHeld : Session → Held → Session
-withHeld x h = record { held = h }
+withHeld x h = record { held = h; ledger = x .ledger }
+
+unfoldable pub answer : ℕ → Session → Session → Step
+answer zero next taken = record { number = 0; session = next }
+answer (suc k) next taken = record { number = suc k; session = taken }
 
 abbrev pub stepWith : Session → HeldStep → Step
-stepWith x y = record { number = y .number; session = withHeld x (y .held) }
+stepWith x y = answer (y .number) (withHeld (counted x) (y .held)) x
 
 abbrev pub load : Session → ℕ → ℕ → List ℕ → List ℕ → Step
-load x p n t1 t2 = stepWith x (Held.load (x .held) p n t1 t2)
+load x p n t1 t2 = stepWith x (Held.load (counted x .held) p n t1 t2)
 
 abbrev pub propose : Session → List ℕ → List ℕ → Step
-propose x s r = stepWith x (Held.propose (x .held) s r)
+propose x s r = stepWith x (Held.propose (counted x .held) s r)
 
 abbrev pub find : Session → Step
-find x = stepWith x (Held.find (x .held))
+find x = stepWith x (Held.find (counted x .held))
 
-unfoldable pub convertNumber : View → List ℕ → List ℕ → ℕ
-convertNumber empty table out = 21
-convertNumber (loaded p n t1 t2) table out = 22
-convertNumber (paired p n t1 t2 s r) table out = tableNumber p n table out
+abbrev pub orElse : ℕ → ℕ → ℕ
+orElse zero rest = rest
+orElse (suc k) rest = suc k
 
-unfoldable pub outputBy : Held → List ℕ → List ℕ → List ℕ → List ℕ → List ℕ
-outputBy x t s table out = written (convertNumber (view x) table out) (converted (x .p) (x .n) t s table) out
+unfoldable pub convertFrom : View → ℕ → List ℕ → List ℕ → ℕ
+convertFrom empty k table out = 21
+convertFrom (loaded p n t1 t2) k table out = 22
+convertFrom (paired p n t1 t2 s r) k table out = orElse (tableNumber p n table out) (refuse 25 (eqb k mostRecords) 0)
 
-abbrev pub convert : Session → List ℕ → List ℕ → Step
-convert x table out = record { number = convertNumber (view (x .held)) table out; session = x }
+unfoldable pub convertNumber : Session → List ℕ → List ℕ → ℕ
+convertNumber x table out = convertFrom (view (counted x .held)) (counted x .ledger .count) table out
+
+unfoldable pub outputBy : Session → List ℕ → List ℕ → List ℕ → List ℕ → List ℕ
+outputBy x t s table out = written (convertNumber x table out) (converted (x .held .p) (x .held .n) t s table) out
+
+abbrev pub recorded : Session → Direction → ℕ → Session
+recorded x d k = record { held = x .held; ledger = added (x .ledger) (record { direction = d; residues = k }) }
+
+unfoldable pub convert : Direction → Session → List ℕ → List ℕ → Step
+convert d x table out = answer (convertNumber x table out) (recorded x d (length table / x .held .n)) x
 
 abbrev pub forwardOutput : Session → List ℕ → List ℕ → List ℕ
-forwardOutput x table out = outputBy (x .held) (t2Of (x .held)) (sOf (x .held)) table out
+forwardOutput x table out = outputBy x (t2Of (x .held)) (sOf (x .held)) table out
 
 abbrev pub backOutput : Session → List ℕ → List ℕ → List ℕ
-backOutput x table out = outputBy (x .held) (t1Of (x .held)) (rOf (x .held)) table out
+backOutput x table out = outputBy x (t1Of (x .held)) (rOf (x .held)) table out
+
+unfoldable pub reportText : Session → List ℕ
+reportText x = Ledger.report (recordsOf (counted x .ledger))
+
+unfoldable pub reportNumber : Session → List ℕ → ℕ
+reportNumber x out = refuse 3 (not (eqb (length out) (length (reportText x)))) 0
+
+abbrev pub report : Session → List ℕ → Step
+report x out = record { number = reportNumber x out; session = x }
+
+abbrev pub reportOutput : Session → List ℕ → List ℕ
+reportOutput x out = written (reportNumber x out) (reportText x) out
 
 abbrev pub clear : Session → Step
-clear x = record { number = 0; session = withHeld x newHeld }
+clear x = record { number = 0; session = withHeld (counted x) newHeld }

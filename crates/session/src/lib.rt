@@ -1,16 +1,23 @@
-// The session: a value around what is held (document 01, "The session"). The calls take a session and give the next one; none requires anything.
-//   convert   Session::forward and Session::back: tables of residues
+// The session: a value around what is held and the ledger (document 01, "The session"; document 02, S-2). The calls take a session and give the next
+// one; none requires anything.
+//   counted   what a session counts as
+//   convert   Session::forward and Session::back: tables of residues, each a record of the ledger
+//   report    Session::report and Session::report_length: the ledger's text
 mod convert;
+mod counted;
+mod report;
 
 use array::Word;
 use held::Held;
 use held::HeldStep;
+use ledger::Ledger;
 ghost use mathlib.Core.Path.{_≡_};
-ghost use Rattle.session.specs.Session.{newSession, withHeld, stepWith, load as loadOf, propose as proposeOf, find as findOf, clear as clearOf};
+ghost use Rattle.session.specs.Session.{newSession, withHeld, answer, load as loadOf, propose as proposeOf, find as findOf, clear as clearOf};
 
-// What a session holds is what a value of the crate held does.
+// What a session holds is what a value of the crate held does; the ledger has the conversions that succeeded.
 pub struct Session {
     pub held: Held,
+    pub ledger: Ledger,
 }
 
 // A call's answer: 0 or the number of the refusal, and the next session.
@@ -19,29 +26,41 @@ pub struct Step {
     pub session: Session,
 }
 
-// The answer of a session whose held value answers y.
-fn step_with(x: Session, y: HeldStep) -> Step
-    ensures { λ r. ⌜ r ≡ stepWith x y ⌝ }
+// The answer where what is held answers y: x with the next value, or the session that was taken.
+fn step_with(taken: Session, x: Session, y: HeldStep) -> Step
+    ensures { λ r. ⌜ r ≡ answer (y .number) (withHeld x (y .held)) taken ⌝ }
 {
+    if y.number != 0 {
+        return Step {
+            number: y.number,
+            session: taken,
+        };
+    }
     let held = y.held;
     Step {
-        number: y.number,
+        number: 0,
         session: x.with_held(held),
     }
 }
 
 impl Session {
-    // The largest degree, and the most words that one conversion takes.
+    // The largest degree, the most words that one conversion takes, and the most records.
     pub const DEGREE: usize = held::DEGREE;
 
     pub const WORDS: usize = table::WORDS;
 
-    // A new session starts empty.
+    pub const RECORDS: usize = Ledger::RECORDS;
+
+    // A new session starts empty, without records.
     pub fn new() -> Session
         ensures { λ r. ⌜ r ≡ newSession ⌝ }
     {
         let held = Held::new();
-        Session { held: held }
+        let ledger = Ledger::new();
+        Session {
+            held: held,
+            ledger: ledger,
+        }
     }
 
     // The session with another held value.
@@ -56,34 +75,38 @@ impl Session {
     pub fn load(self, p: u32, n: u32, t1: &[Word], t2: &[Word]) -> Step
         ensures { λ r. ⌜ r ≡ loadOf self p n (now (t1 .entry)) (now (t2 .entry)) ⌝ }
     {
-        let held = self.held;
-        step_with(self, held.load(p, n, t1, t2))
+        let x = self.counted();
+        let held = x.held;
+        step_with(self, x, held.load(p, n, t1, t2))
     }
 
     // The session with a pair that the checker accepts: 21, 24, 3, 4, 8.
     pub fn propose(self, s: &[Word], r: &[Word]) -> Step
         ensures { λ y. ⌜ y ≡ proposeOf self (now (s .entry)) (now (r .entry)) ⌝ }
     {
-        let held = self.held;
-        step_with(self, held.propose(s, r))
+        let x = self.counted();
+        let held = x.held;
+        step_with(self, x, held.propose(s, r))
     }
 
     // The session with the finder's pair: 21, 24, 5, 6, 7.
     pub fn find(self) -> Step
         ensures { λ y. ⌜ y ≡ findOf self ⌝ }
     {
-        let held = self.held;
-        step_with(self, held.find())
+        let x = self.counted();
+        let held = x.held;
+        step_with(self, x, held.find())
     }
 
-    // Any state to empty; it never refuses.
+    // Any state to empty, with the records; it never refuses.
     pub fn clear(self) -> Step
         ensures { λ r. ⌜ r ≡ clearOf self ⌝ }
     {
+        let x = self.counted();
         let held = Held::new();
         Step {
             number: 0,
-            session: self.with_held(held),
+            session: x.with_held(held),
         }
     }
 }

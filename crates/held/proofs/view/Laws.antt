@@ -1,5 +1,5 @@
 -- What a value counts as, by the tests of the code: each law has a test's outcome and what is valid then.
-use mathlib.Core.Path.{_≡_, refl, sym, _∙_}
+use mathlib.Core.Path.{_≡_, sym, _∙_}
 use mathlib.Core.Bool.{Bool, true, false, not, _&&_, and-true, and-assoc, Bool·not-not}
 use mathlib.Core.List.{List, [], _∷_}
 use Prim.Native.Nat.{ℕ, _≤_}
@@ -10,11 +10,11 @@ use Rattle.modular.specs.Prime.{isPrime}
 use Rattle.refusal.specs.Refusal.{isDegree, badPrime, badDegree, badWord, largestDegree}
 use Rattle.refusal.proofs.Refusal.{degree-given}
 use Rattle.refusal.proofs.Tests.{words-next}
-use Rattle.held.specs.Held.{valid, validAs, validHeld, t1Of, t2Of, sOf, rOf, view, viewAs}
+use Rattle.held.specs.Held.{valid, validAs, validHeld, t1Of, t2Of, sOf, rOf, view}
 use Rattle.held.specs.ViewState.{viewState}
 use Rattle.held.specs.declared.Held.{Held}
-use Rattle.held.specs.declared.State.{State}
 use Rattle.held.specs.declared.State.the-variants.{Empty, Loaded, Paired}
+use Rattle.held.proofs.Contents.{valid-state, invalid-view}
 use Rattle.held.proofs.Valid.{valid-degree}
 
 -- one more list, the first words of an array
@@ -57,12 +57,6 @@ module _ (p n : ℕ) (w : Bool) (a b : List ℕ) (e : w ≡ valid p n (a ∷ b �
   pair-decides r c d h f = rw (valid-four c d, ← e, not-false w h) f
 
 -- the value
-as-its-state : (state : State) (p n : ℕ) (t1 t2 s r : List ℕ) → state ≡ viewState (viewAs state p n t1 t2 s r)
-unfolding viewState viewAs
-as-its-state Empty p n t1 t2 s r = refl
-as-its-state Loaded p n t1 t2 s r = refl
-as-its-state Paired p n t1 t2 s r = refl
-
 module _ (x : Held) where
   pub valid-empty : x .state ≡ Empty → true ≡ validHeld x
   unfolding validHeld validAs
@@ -78,9 +72,8 @@ module _ (x : Held) where
 
   module _ (b : Bool) (e : b ≡ validHeld x) where
     pub counts-itself : b ≡ true → x .state ≡ viewState (view x)
-    unfolding view
-    counts-itself h = rw (← e, h) (as-its-state (x .state) _ _ _ _ _ _)
+    counts-itself h = valid-state x (sym e ∙ h)
 
     pub counts-new : b ≡ false → Empty ≡ viewState (view x)
-    unfolding view viewState
-    counts-new h = rw (← e, h)
+    unfolding viewState
+    counts-new h = rw (invalid-view x (sym e ∙ h))

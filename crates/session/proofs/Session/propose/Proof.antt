@@ -3,6 +3,9 @@ use borrow.Author.Needs.{needs}
 use Rattle.session.proofs.Session.propose.Statement.{statement}
 use Rattle.session.proofs.Session.propose.Tie as tie
 
+counted-requires : tie.Need-counted-requires
+counted-requires c κs = search needs
+
 propose-requires : tie.Need-propose-requires
 propose-requires c κs = search needs
 
@@ -13,4 +16,4 @@ returns : tie.Need-returns
 returns c = cc
 
 pub propose-spec : {M : Type 1} → statement M
-propose-spec = tie.close (tie.spec propose-requires step-with-requires returns)
+propose-spec = tie.close (tie.spec counted-requires propose-requires step-with-requires returns)

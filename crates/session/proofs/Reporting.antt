@@ -1,0 +1,53 @@
+-- The report is that of the ledger of what the session counts as, and is written where the output list has its length.
+use mathlib.Core.Path.{_≡_, sym, ap, _∙_}
+use mathlib.Core.Bool.{true, false}
+use mathlib.Core.List.{List}
+use Prim.Native.Nat.{ℕ, _≤_}
+use lib.Dec.{eqb}
+use lib.ListN.{length}
+use borrow.Author.Tests.{eq-eqb, ne-eqb}
+use Rattle.ledger.specs.Ledger as Ledger
+use Rattle.ledger.specs.Ledger.{mostRecords, recordsOf}
+use Rattle.session.specs.Session.{counted, reportText, reportNumber, report, reportOutput}
+use Rattle.session.specs.declared.Session.{Session}
+use Rattle.session.proofs.CountsAs.{counted-few}
+
+module _ (x y : Session) (e : y ≡ counted x) where
+  pub few-records : y .ledger .count ≤ mostRecords
+  few-records = rw e (counted-few x)
+
+  text-is : Ledger.report (recordsOf (y .ledger)) ≡ reportText x
+  unfolding reportText
+  text-is = ap (λ z. Ledger.report (recordsOf (z .ledger))) e
+
+  module _ (k : ℕ) (f : k ≡ length (Ledger.report (recordsOf (y .ledger)))) where
+    pub report-long : k ≡ length (reportText x)
+    report-long = f ∙ ap length text-is
+
+    module _ (out : List ℕ) where
+      module _ (other : length out ≡ k → ⊥) where
+        differs : eqb (length out) (length (reportText x)) ≡ false
+        differs = ne-eqb (length out) (length (reportText x)) (λ z. other (z ∙ sym report-long))
+
+        pub report-refused : record { number = 3; session = x } ≡ report x out
+        unfolding reportNumber
+        report-refused = rw differs
+
+        pub nothing-written : out ≡ reportOutput x out
+        unfolding reportNumber
+        nothing-written = rw differs
+
+      module _ (own : length out ≡ k) where
+        pub room-is : length out ≡ length (Ledger.report (recordsOf (y .ledger)))
+        room-is = own ∙ f
+
+        agrees : eqb (length out) (length (reportText x)) ≡ true
+        agrees = eq-eqb (length out) (length (reportText x)) (own ∙ report-long)
+
+        pub report-accepted : record { number = 0; session = x } ≡ report x out
+        unfolding reportNumber
+        report-accepted = rw agrees
+
+        pub report-written : (after : List ℕ) → after ≡ Ledger.report (recordsOf (y .ledger)) → after ≡ reportOutput x out
+        unfolding reportNumber
+        report-written after g = rw agrees (g ∙ text-is)
