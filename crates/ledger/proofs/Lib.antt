@@ -1,3 +1,3 @@
 -- What is proved of the ledger: totals and lines of records, one behind another (Records), and the theorems (Theorem).
-mod Records
+pub mod Records
 pub mod Theorem

@@ -4,3 +4,5 @@ mod CountsAs
 mod Answer
 mod Conversion
 mod Reporting
+mod RoundTrip
+pub mod Theorem
