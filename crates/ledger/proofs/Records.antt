@@ -1,20 +1,19 @@
 -- Totals and lines of records that stand one behind another, and loops over the records that count.
 --   total-append, lines-append   of two lists
 --   lines-monotone               more records have longer lines
---   records-long                 the array's length, as a function is handed it
---   Before l count i             what a loop over the records of l knows before turn i
---   before-next, before-all      the next turn, and the end, where all records that count have been taken
+--   records-long                 the length of an array of structs, as a function is handed it
+--   Before xs count i            what a loop over the first elements of such an array, xs, knows before turn i
+--   before-next, before-all      the next turn, and the end, where all elements that count have been taken
 --   total-none, total-next, total-all   the total of the records taken: at first, one record more, all
 use mathlib.Core.Path.{_≡_, refl, sym, ap, _∙_}
 use mathlib.Core.List.{List, [], _∷_, _++_, map, append-assoc}
 use Prim.Native.Nat.{ℕ, zero, suc, _+_, _≤_, _<_}
 use native.Mathlib.Numerals.{add-one}
 use native.Mathlib.Omega.{arith}
-use lib.ListN.{length, getD, take, length-append}
+use lib.ListN.{length, getD, take, length-append, length-map}
 use lib.Seq.{take-suc}
-use Rattle.ledger.specs.Ledger.{mostRecords, none, recordsOf, residuesIn, total, line, lines}
+use Rattle.ledger.specs.Ledger.{mostRecords, none, residuesIn, total, line, lines}
 use Rattle.ledger.specs.declared.Direction.{Direction}
-use Rattle.ledger.specs.declared.Ledger.{Ledger}
 use Rattle.ledger.specs.declared.Record.{Record}
 
 pub total-append : (d : Direction) (xs ys : List Record) → total d (xs ++ ys) ≡ total d xs + total d ys
@@ -38,38 +37,32 @@ lines-monotone (suc i) (suc j) (x ∷ xs) h =
 -- loops over the records that count
 
 pub records-long : (X Y : Type 0) (f : X → Y) (xs : List X) (n : ℕ) → length (map f xs) ≡ n → length xs ≡ n
-records-long X Y f xs n e = sym (go xs) ∙ e
-  where
-    go : (xs : List X) → length (map f xs) ≡ length xs
-    go [] = refl
-    go (x ∷ xs) = ap suc (go xs)
+records-long X Y f xs n e = sym (length-map xs f) ∙ e
 
-pub record Before (l : Ledger) (count i : ℕ) : Type 0 where
+pub record Before {A : Type 0} (xs : List A) (count i : ℕ) : Type 0 where
   pub within : i ≤ count
-  pub count-is : count ≡ l .count
-  pub few : l .count ≤ mostRecords
-  pub long : length (l .records) ≡ mostRecords
+  pub few : count ≤ mostRecords
+  pub long : length xs ≡ mostRecords
 
-module _ (l : Ledger) (count i : ℕ) (h : Before l count i) where
-  pub before-next : i < count → Before l count (i + 1)
-  before-next more = record { within = omega arith; count-is = h .count-is; few = h .few; long = h .long }
+module _ {A : Type 0} (xs : List A) (count i : ℕ) (h : Before xs count i) where
+  pub before-next : i < count → Before xs count (i + 1)
+  before-next more = record { within = omega arith; few = h .few; long = h .long }
 
-  pub before-all : count ≤ i → take i (l .records) ≡ recordsOf l
-  before-all end = let same : i ≡ l .count = omega arith in ap (λ k. take k (l .records)) same
+  pub before-there : i < count → i < length xs
+  before-there more = omega arith
 
-  pub record-there : i < count → i < length (l .records)
-  record-there more = omega arith
-
-  pub total-next : i < count → (d : Direction) (k m : ℕ) → k ≡ total d (take i (l .records)) → m ≡ residuesIn d (getD (l .records) i none)
-      → k + m ≡ total d (take (i + 1) (l .records))
-  unfolding total
-  total-next more d k m e f =
-      rw (add-one i, take-suc (l .records) i none (record-there more))
-      (omega (arith, e, f, total-append d (take i (l .records)) (getD (l .records) i none ∷ [])))
-
-  pub total-all : count ≤ i → (d : Direction) (k : ℕ) → k ≡ total d (take i (l .records)) → k ≡ total d (recordsOf l)
-  total-all end d k e = e ∙ ap (total d) (before-all end)
+  pub before-all : count ≤ i → take i xs ≡ take count xs
+  before-all end = let same : i ≡ count = omega arith in ap (λ k. take k xs) same
 
 pub total-none : (d : Direction) (xs : List Record) → 0 ≡ total d (take 0 xs)
 unfolding total
 total-none d xs = refl
+
+module _ (xs : List Record) (count i : ℕ) (h : Before xs count i) (d : Direction) (k : ℕ) (e : k ≡ total d (take i xs)) where
+  pub total-next : i < count → (m : ℕ) → m ≡ residuesIn d (getD xs i none) → k + m ≡ total d (take (i + 1) xs)
+  unfolding total
+  total-next more m f =
+      rw (add-one i, take-suc xs i none (before-there xs count i h more)) (omega (arith, e, f, total-append d (take i xs) (getD xs i none ∷ [])))
+
+  pub total-all : count ≤ i → k ≡ total d (take count xs)
+  total-all end = e ∙ ap (total d) (before-all xs count i h end)

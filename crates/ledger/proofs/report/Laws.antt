@@ -12,12 +12,11 @@ use Rattle.text.specs.Digits.{decimal}
 use Rattle.text.specs.Text.{Appended}
 use Rattle.text.proofs.Append.{append-nothing, append-both, append-next}
 use Rattle.text.proofs.DecimalDigits.{decimal-length}
-use Rattle.ledger.specs.Ledger.{none, recordsOf, total, letter, number, line, lines, report}
+use Rattle.ledger.specs.Ledger.{none, total, letter, number, line, lines, report}
 use Rattle.ledger.specs.declared.Direction.{Direction}
 use Rattle.ledger.specs.declared.Direction.the-variants.{Forward, Back}
-use Rattle.ledger.specs.declared.Ledger.{Ledger}
 use Rattle.ledger.specs.declared.Record.{Record}
-use Rattle.ledger.proofs.Records.{lines-append, lines-monotone, Before, before-all, record-there}
+use Rattle.ledger.proofs.Records.{lines-append, lines-monotone, Before, before-there, before-all}
 
 -- lengths
 
@@ -104,33 +103,32 @@ pub lines-short : (xs : List Record) → 0 ≡ length (lines (take 0 xs))
 unfolding lines
 lines-short xs = refl
 
-module _ (l : Ledger) (count i : ℕ) (h : Before l count i) where
+module _ (xs : List Record) (count i : ℕ) (h : Before xs count i) where
   module _ (more : i < count) where
-    next-long : length (lines (take (i + 1) (l .records))) ≡ length (lines (take i (l .records))) + length (line (getD (l .records) i none))
+    next-long : length (lines (take (i + 1) xs)) ≡ length (lines (take i xs)) + length (line (getD xs i none))
     next-long =
-        rw (add-one i, take-suc (l .records) i none (record-there l count i h more), lines-append, ← one-line (getD (l .records) i none))
-        (length-append (lines (take i (l .records))) (line (getD (l .records) i none)))
+        rw (add-one i, take-suc xs i none (before-there xs count i h more), lines-append, ← one-line (getD xs i none))
+        (length-append (lines (take i xs)) (line (getD xs i none)))
 
-    pub next-room : (m : ℕ) (before between : List ℕ) → Appended 0 (lines (take i (l .records))) before between m → length between ≡ length before
-        → length (lines (recordsOf l)) ≤ length before → m + length (line (getD (l .records) i none)) ≤ length between
-    next-room m before between a same room = omega (arith, a .end-is, next-long, lines-monotone (i + 1) (l .count) (l .records) (omega arith))
+    pub next-room : (m : ℕ) (before between : List ℕ) → Appended 0 (lines (take i xs)) before between m → length between ≡ length before
+        → length (lines (take count xs)) ≤ length before → m + length (line (getD xs i none)) ≤ length between
+    next-room m before between a same room = omega (arith, a .end-is, next-long, lines-monotone (i + 1) count xs (omega arith))
 
-    pub next-line : (m r : ℕ) (before between after : List ℕ) → Appended 0 (lines (take i (l .records))) before between m
-        → Appended m (line (getD (l .records) i none)) between after r → Appended 0 (lines (take (i + 1) (l .records))) before after r
+    pub next-line : (m r : ℕ) (before between after : List ℕ) → Appended 0 (lines (take i xs)) before between m
+        → Appended m (line (getD xs i none)) between after r → Appended 0 (lines (take (i + 1) xs)) before after r
     next-line m r before between after a b =
-        append-next none lines lines-append 0 i m r (l .records) before between after a (record-there l count i h more)
-        (subst (λ t. Appended m t between after r) (one-line (getD (l .records) i none)) b)
+        append-next none lines lines-append 0 i m r xs before between after a (before-there xs count i h more)
+        (subst (λ t. Appended m t between after r) (one-line (getD xs i none)) b)
 
-    pub lines-longer : (m k : ℕ) → m ≡ length (lines (take i (l .records))) → k ≡ length (line (getD (l .records) i none))
-        → m + k ≡ length (lines (take (i + 1) (l .records)))
+    pub lines-longer : (m k : ℕ) → m ≡ length (lines (take i xs)) → k ≡ length (line (getD xs i none)) → m + k ≡ length (lines (take (i + 1) xs))
     lines-longer m k e f = omega (arith, e, f, next-long)
 
   module _ (end : count ≤ i) where
-    pub all-lines : (m : ℕ) (before after : List ℕ) → Appended 0 (lines (take i (l .records))) before after m → Appended 0 (lines (recordsOf l)) before after m
-    all-lines m before after a = rw (before-all l count i h end) at a
+    pub all-lines : (m : ℕ) (before after : List ℕ) → Appended 0 (lines (take i xs)) before after m → Appended 0 (lines (take count xs)) before after m
+    all-lines m before after a = rw (before-all xs count i h end) at a
 
-    pub all-long : (k : ℕ) → k ≡ length (lines (take i (l .records))) → k ≡ length (lines (recordsOf l))
-    all-long k e = e ∙ ap (λ xs. length (lines xs)) (before-all l count i h end)
+    pub all-long : (k : ℕ) → k ≡ length (lines (take i xs)) → k ≡ length (lines (take count xs))
+    all-long k e = e ∙ ap (λ ys. length (lines ys)) (before-all xs count i h end)
 
 -- the lines and the totals
 

@@ -10,7 +10,7 @@ use Rattle.ledger.proofs.report.lines_length.Statement.{statement}
 use Rattle.ledger.proofs.report.lines_length.Tie as tie
 
 abbrev Inv-loop : tie.InvT-loop
-Inv-loop ledger count sum₀ i₀ sum i = Before ledger count i × (sum ≡ length (lines (take i (ledger .records)))) × (sum ≤ i * 23)
+Inv-loop ledger count sum₀ i₀ sum i = Before (ledger .records) count i × (sum ≡ length (lines (take i (ledger .records)))) × (sum ≤ i * 23)
 
 abbrev μ-loop : tie.MeasureT-loop
 μ-loop ledger count sum₀ i₀ sum i = count - i
@@ -19,7 +19,7 @@ cast-count : tie.Need-cast-count Inv-loop μ-loop
 cast-count c = search needs
 
 loop-holds : tie.Need-loop-holds Inv-loop μ-loop
-loop-holds c = (record { within = search needs; count-is = refl; few = search needs; long = search records-long }, search lines-short, search needs)
+loop-holds c = (record { within = search needs; few = search needs; long = search records-long }, search lines-short, search needs)
 
 mul-line-length : tie.Need-mul-line-length Inv-loop μ-loop
 mul-line-length c = search needs

@@ -11,7 +11,7 @@ use Rattle.ledger.proofs.report.put_records.Statement.{statement}
 use Rattle.ledger.proofs.report.put_records.Tie as tie
 
 abbrev Inv-loop : tie.InvT-loop
-Inv-loop text₀ ledger count end₀ i₀ text end i = Before ledger count i × (length text ≡ length text₀) × Appended 0 (lines (take i (ledger .records))) text₀ text end
+Inv-loop text₀ ledger count end₀ i₀ text end i = Before (ledger .records) count i × (length text ≡ length text₀) × Appended 0 (lines (take i (ledger .records))) text₀ text end
 
 abbrev μ-loop : tie.MeasureT-loop
 μ-loop text₀ ledger count end₀ i₀ text end i = count - i
@@ -20,7 +20,7 @@ cast-count : tie.Need-cast-count Inv-loop μ-loop
 cast-count c = search needs
 
 loop-holds : tie.Need-loop-holds Inv-loop μ-loop
-loop-holds c = (record { within = search needs; count-is = refl; few = search needs; long = search records-long }, refl, search no-lines)
+loop-holds c = (record { within = search needs; few = search needs; long = search records-long }, refl, search no-lines)
 
 mul-put-record : tie.Need-mul-put-record Inv-loop μ-loop
 mul-put-record c = search needs

@@ -9,7 +9,7 @@ use Rattle.ledger.proofs.total.total.Statement.{statement}
 use Rattle.ledger.proofs.total.total.Tie as tie
 
 abbrev Inv-loop : tie.InvT-loop
-Inv-loop direction ledger count sum₀ i₀ sum i = Before ledger count i × (sum ≡ total direction (take i (ledger .records))) × (sum ≤ i * 4294967295)
+Inv-loop direction ledger count sum₀ i₀ sum i = Before (ledger .records) count i × (sum ≡ total direction (take i (ledger .records))) × (sum ≤ i * 4294967295)
 
 abbrev μ-loop : tie.MeasureT-loop
 μ-loop direction ledger count sum₀ i₀ sum i = count - i
@@ -18,7 +18,7 @@ cast-count : tie.Need-cast-count Inv-loop μ-loop
 cast-count c = search needs
 
 loop-holds : tie.Need-loop-holds Inv-loop μ-loop
-loop-holds c = (record { within = search needs; count-is = refl; few = search needs; long = search records-long }, search total-none, search needs)
+loop-holds c = (record { within = search needs; few = search needs; long = search records-long }, search total-none, search needs)
 
 mul-residues-in : tie.Need-mul-residues-in Inv-loop μ-loop
 mul-residues-in c = search needs

@@ -1,0 +1,91 @@
+-- Sessions and their answers as C has them, by the tests of the code.
+--   state-other                     a number above 1 is the state paired
+--   state-past, records-past, directions-decide    whether a value is made, by its state, its records and their directions
+--   new-session, records-few, session-made         the session of a value
+--   step-refused, step-accepted     the answer of a call, by its number
+--   session-calls, gives-back       the answer of a call of the session of a value
+--   new-value                       the value of a new session
+use mathlib.Core.Path.{_≡_, refl, sym, ap, _∙_}
+use mathlib.Core.Bool.{Bool, true, false, _&&_, not, and-eq-true-iff}
+use mathlib.Core.List.{List, [], _∷_, map}
+use Prim.Native.Nat.{ℕ, zero, suc, _≤_, _<_}
+use borrow.Author.Tests.{not-true, not-false, le-leb, lt-leb, leb-true}
+use lib.Dec.{leb}
+use lib.ListN.{take, replicate}
+use Rattle.algebra.specs.Lists.{all}
+use Rattle.held.specs.declared.Held.{Held}
+use Rattle.held.specs.declared.State.the-variants.{Paired}
+use Rattle.ledger.specs.Ledger.{mostRecords, none}
+use Rattle.ledger.specs.declared.Record.{Record}
+use Rattle.session.specs.Session.{newSession}
+use Rattle.session.specs.declared.Session.{Session}
+use Rattle.session.specs.declared.Step.{Step}
+use Rattle.cvalue.specs.Values.{stateOf, recordOf, recordValue, noneValue, hasDirection, made, upTo, heldOf, sessionOf, valueOf, answerOf, stepOf, givenBack}
+use Rattle.cvalue.specs.declared.SessionValue.{SessionValue}
+use Rattle.cvalue.specs.declared.StepValue.{StepValue}
+
+pub state-other : (k : ℕ) → (k ≡ 0 → ⊥) → (k ≡ 1 → ⊥) → Paired ≡ stateOf k
+state-other zero f g = absurd (f refl)
+state-other (suc zero) f g = absurd (g refl)
+state-other (suc (suc k)) f g = refl
+
+-- whether a value is made
+module _ (v : SessionValue) where
+  pub state-past : 2 < v .state → false ≡ made v
+  unfolding made
+  state-past h = rw (lt-leb (v .state) 2 h)
+
+  module _ (low : v .state ≤ 2) where
+    pub records-past : mostRecords < v .records → false ≡ made v
+    unfolding made
+    records-past h = rw (le-leb (v .state) 2 low, lt-leb (v .records) mostRecords h)
+
+    pub directions-decide : v .records ≤ mostRecords → (b : Bool) → b ≡ all hasDirection (take (v .records) (v .ledger)) → b ≡ made v
+    unfolding made
+    directions-decide h b e = rw (le-leb (v .state) 2 low, le-leb (v .records) mostRecords h) e
+
+-- the session of a value
+module _ (v : SessionValue) (b : Bool) (e : b ≡ made v) where
+  pub new-session : not b ≡ true → (x : Session) → x ≡ newSession → x ≡ sessionOf v
+  unfolding sessionOf
+  new-session h x f = rw (← e, not-true b h) f
+
+  module _ (h : not b ≡ false) where
+    pub records-few : v .records ≤ mostRecords
+    unfolding made
+    records-few =
+        let own : made v ≡ true = sym e ∙ not-false b h in
+        let (front, _) = and-eq-true-iff (leb (v .state) 2 && leb (v .records) mostRecords) (all hasDirection (take (v .records) (v .ledger))) .0 own in
+        leb-true (v .records) mostRecords (and-eq-true-iff (leb (v .state) 2) (leb (v .records) mostRecords) .0 front .1)
+
+    pub session-made : (held : Held) (records : List Record) → held ≡ heldOf v → records ≡ upTo mostRecords none (map recordOf (take (v .records) (v .ledger)))
+        → record { held = held; ledger = record { count = v .records; records = records } } ≡ sessionOf v
+    unfolding sessionOf
+    session-made held records f g = rw (← e, not-false b h, f, g)
+
+-- answers
+module _ (v : SessionValue) (y : Step) where
+  pub step-refused : (y .number ≡ 0 → ⊥) → record { number = y .number; session = v } ≡ stepOf v y
+  unfolding stepOf
+  step-refused h = go (y .number) h
+    where
+      go : (k : ℕ) → (k ≡ 0 → ⊥) → record { number = k; session = v } ≡ answerOf k (valueOf (y .session)) v
+      go zero h = absurd (h refl)
+      go (suc k) h = unfold answerOf in refl
+
+  pub step-accepted : y .number ≡ 0 → (w : SessionValue) → w ≡ valueOf (y .session) → record { number = 0; session = w } ≡ stepOf v y
+  unfolding stepOf answerOf
+  step-accepted h w e = rw (h, e)
+
+pub new-value : record { state = 0; p = 0; n = 0; t1 = replicate 16 0; t2 = replicate 16 0; s = replicate 16 0; r = replicate 16 0; records = 0; ledger = replicate 512 noneValue } ≡ valueOf newSession
+unfolding valueOf upTo
+new-value = refl
+
+-- a call of the session of a value, which answers f of the session
+module _ (v : SessionValue) (x : Session) (e : x ≡ sessionOf v) (f : Session → Step) (y : Step) (g : y ≡ f x) where
+  pub session-calls : (z : StepValue) → z ≡ stepOf v y → z ≡ stepOf v (f (sessionOf v))
+  session-calls z h = h ∙ ap (stepOf v) (g ∙ ap f e)
+
+  pub gives-back : record { number = y .number; session = v } ≡ givenBack v (f (sessionOf v))
+  unfolding givenBack
+  gives-back = ap (givenBack v) (g ∙ ap f e)

@@ -1,0 +1,2 @@
+-- Sessions as C has them.
+pub mod Values
