@@ -2,9 +2,7 @@
 // is named after, and promises what that call promises.
 //   field      check, sheet, find, substitute, product, power
 //   cards      the reader and the writer of cards
-//   sessions   the session, as a value with a number for its state
-//   value      sessions to such values, and back
+//   sessions   the session, as a value of the crate cvalue
 pub mod cards;
 pub mod field;
 pub mod sessions;
-mod value;

@@ -1,44 +1,23 @@
-// The session. A value with a state above 2 is one made otherwise and counts as new.
-use crate::value::session_of;
-use crate::value::step_of;
+// The session, as C has it. A value made otherwise counts as a new session.
 use array::Word;
+use cvalue::SessionValue;
+use cvalue::StepValue;
+use cvalue::sessions::session_of;
+use cvalue::sessions::step_of;
+use cvalue::sessions::value_of;
+use session::Session;
 ghost use mathlib.Core.Path.{_≡_};
-ghost use Rattle.capi.specs.Values.{sessionOf, valueOf, stepOf, convertedOf};
-ghost use Rattle.session.specs.Session.{newSession, load, propose, find, convert, forwardOutput, backOutput, clear};
+ghost use lib.ListN.{length};
+ghost use Rattle.cvalue.specs.Values.{sessionOf, valueOf, stepOf, givenBack};
+ghost use Rattle.ledger.specs.declared.Direction.the-variants.{Forward, Back};
+ghost use Rattle.session.specs.Session.{newSession, load, propose, find, convert, forwardOutput, backOutput, report, reportText, reportOutput, clear};
 
-// A session's value: state 0 is empty, 1 loaded (p, n, T1, T2), 2 paired (also S, R).
-#[repr(C)]
-pub struct SessionValue {
-    pub state: u32,
-    pub p: u32,
-    pub n: u32,
-    pub t1: [Word; 16],
-    pub t2: [Word; 16],
-    pub s: [Word; 16],
-    pub r: [Word; 16],
-}
-
-// A session call's answer: the number and the next session; refused, the session that was taken.
-#[repr(C)]
-pub struct StepValue {
-    pub number: u32,
-    pub session: SessionValue,
-}
-
-// A new session: empty.
+// A new session: empty, without records.
 #[no_mangle]
 pub extern "C" fn yokebean_session_new() -> SessionValue
     ensures { λ r. ⌜ r ≡ valueOf newSession ⌝ }
 {
-    SessionValue {
-        state: 0,
-        p: 0,
-        n: 0,
-        t1: [0; 16],
-        t2: [0; 16],
-        s: [0; 16],
-        r: [0; 16],
-    }
+    value_of(Session::new())
 }
 
 // Empty to loaded: 0, or 23, 1 to 4.
@@ -75,41 +54,54 @@ pub extern "C" fn yokebean_session_find(session: SessionValue) -> StepValue
     step_of(session, session_of(session).find())
 }
 
-// out := the images of a table of residues modulo T1, by S, modulo T2: 0, or 21, 22, 9, 10, 4.
+// out := the images of a table of residues modulo T1, by S, modulo T2: 0, or 21, 22, 9, 10, 4, 25.
 #[no_mangle]
 pub extern "C" fn yokebean_session_forward(
     session: SessionValue,
     table: &[Word],
     out: &mut [Word],
 ) -> StepValue
-    ensures { λ r. ⌜ r ≡ convertedOf session (convert (sessionOf session) (now (table .entry)) (now (out .entry))) ⌝ }
+    ensures { λ r. ⌜ r ≡ stepOf session (convert Forward (sessionOf session) (now (table .entry)) (now (out .entry))) ⌝ }
     ensures { λ r. ⌜ now (out .exit) ≡ forwardOutput (sessionOf session) (now (table .entry)) (now (out .entry)) ⌝ }
 {
-    let step = session_of(session).forward(table, out);
-    StepValue {
-        number: step.number,
-        session: session,
-    }
+    step_of(session, session_of(session).forward(table, out))
 }
 
-// out := the images of a table of residues modulo T2, by R, modulo T1: 0, or 21, 22, 9, 10, 4.
+// out := the images of a table of residues modulo T2, by R, modulo T1: 0, or 21, 22, 9, 10, 4, 25.
 #[no_mangle]
 pub extern "C" fn yokebean_session_back(
     session: SessionValue,
     table: &[Word],
     out: &mut [Word],
 ) -> StepValue
-    ensures { λ r. ⌜ r ≡ convertedOf session (convert (sessionOf session) (now (table .entry)) (now (out .entry))) ⌝ }
+    ensures { λ r. ⌜ r ≡ stepOf session (convert Back (sessionOf session) (now (table .entry)) (now (out .entry))) ⌝ }
     ensures { λ r. ⌜ now (out .exit) ≡ backOutput (sessionOf session) (now (table .entry)) (now (out .entry)) ⌝ }
 {
-    let step = session_of(session).back(table, out);
+    step_of(session, session_of(session).back(table, out))
+}
+
+// How long the report is.
+#[no_mangle]
+pub extern "C" fn yokebean_session_report_length(session: SessionValue) -> usize
+    ensures { λ r. ⌜ r ≡ length (reportText (sessionOf session)) ⌝ }
+{
+    session_of(session).report_length()
+}
+
+// out := the records, a line each, and the two totals; the session is given back: 0, or 3.
+#[no_mangle]
+pub extern "C" fn yokebean_session_report(session: SessionValue, out: &mut [u8]) -> StepValue
+    ensures { λ r. ⌜ r ≡ givenBack session (report (sessionOf session) (now (out .entry))) ⌝ }
+    ensures { λ r. ⌜ now (out .exit) ≡ reportOutput (sessionOf session) (now (out .entry)) ⌝ }
+{
+    let step = session_of(session).report(out);
     StepValue {
         number: step.number,
         session: session,
     }
 }
 
-// Any state to empty: always 0.
+// Any state to empty, with the records: always 0.
 #[no_mangle]
 pub extern "C" fn yokebean_session_clear(session: SessionValue) -> StepValue
     ensures { λ r. ⌜ r ≡ stepOf session (clear (sessionOf session)) ⌝ }

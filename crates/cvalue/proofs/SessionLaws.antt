@@ -3,26 +3,24 @@
 --   state-past, records-past, directions-decide    whether a value is made, by its state, its records and their directions
 --   new-session, records-few, session-made         the session of a value
 --   step-refused, step-accepted     the answer of a call, by its number
---   session-calls, gives-back       the answer of a call of the session of a value
---   new-value                       the value of a new session
+--   report-answers                  the answer of a report of the session of a value
 use mathlib.Core.Path.{_≡_, refl, sym, ap, _∙_}
 use mathlib.Core.Bool.{Bool, true, false, _&&_, not, and-eq-true-iff}
-use mathlib.Core.List.{List, [], _∷_, map}
+use mathlib.Core.List.{List, map}
 use Prim.Native.Nat.{ℕ, zero, suc, _≤_, _<_}
 use borrow.Author.Tests.{not-true, not-false, le-leb, lt-leb, leb-true}
 use lib.Dec.{leb}
-use lib.ListN.{take, replicate}
+use lib.ListN.{take}
 use Rattle.algebra.specs.Lists.{all}
 use Rattle.held.specs.declared.Held.{Held}
 use Rattle.held.specs.declared.State.the-variants.{Paired}
 use Rattle.ledger.specs.Ledger.{mostRecords, none}
 use Rattle.ledger.specs.declared.Record.{Record}
-use Rattle.session.specs.Session.{newSession}
+use Rattle.session.specs.Session.{newSession, report}
 use Rattle.session.specs.declared.Session.{Session}
 use Rattle.session.specs.declared.Step.{Step}
-use Rattle.cvalue.specs.Values.{stateOf, recordOf, recordValue, noneValue, hasDirection, made, upTo, heldOf, sessionOf, valueOf, answerOf, stepOf, givenBack}
+use Rattle.cvalue.specs.Values.{stateOf, recordOf, hasDirection, made, upTo, heldOf, sessionOf, valueOf, answerOf, stepOf, givenBack}
 use Rattle.cvalue.specs.declared.SessionValue.{SessionValue}
-use Rattle.cvalue.specs.declared.StepValue.{StepValue}
 
 pub state-other : (k : ℕ) → (k ≡ 0 → ⊥) → (k ≡ 1 → ⊥) → Paired ≡ stateOf k
 state-other zero f g = absurd (f refl)
@@ -77,15 +75,8 @@ module _ (v : SessionValue) (y : Step) where
   unfolding stepOf answerOf
   step-accepted h w e = rw (h, e)
 
-pub new-value : record { state = 0; p = 0; n = 0; t1 = replicate 16 0; t2 = replicate 16 0; s = replicate 16 0; r = replicate 16 0; records = 0; ledger = replicate 512 noneValue } ≡ valueOf newSession
-unfolding valueOf upTo
-new-value = refl
-
--- a call of the session of a value, which answers f of the session
-module _ (v : SessionValue) (x : Session) (e : x ≡ sessionOf v) (f : Session → Step) (y : Step) (g : y ≡ f x) where
-  pub session-calls : (z : StepValue) → z ≡ stepOf v y → z ≡ stepOf v (f (sessionOf v))
-  session-calls z h = h ∙ ap (stepOf v) (g ∙ ap f e)
-
-  pub gives-back : record { number = y .number; session = v } ≡ givenBack v (f (sessionOf v))
-  unfolding givenBack
-  gives-back = ap (givenBack v) (g ∙ ap f e)
+-- the answer of a report of the session of a value
+pub report-answers : (v : SessionValue) (x : Session) → x ≡ sessionOf v → (out : List ℕ) (y : Step) → y ≡ report x out
+    → record { number = y .number; session = v } ≡ givenBack v (report (sessionOf v) out)
+unfolding givenBack
+report-answers v x e out y g = ap (givenBack v) (g ∙ ap (λ x. report x out) e)

@@ -1,6 +1,5 @@
--- `yokebean_session_back`: the session's conversion, and the value that was taken.
+-- The value as a session, the call of the session, and its answer as a value.
 use borrow.Author.Needs.{needs}
-use Rattle.capi.proofs.Values.{convert-answers, back-writes}
 use Rattle.capi.proofs.sessions.yokebean_session_back.Statement.{statement}
 use Rattle.capi.proofs.sessions.yokebean_session_back.Tie as tie
 
@@ -10,11 +9,15 @@ session-of-requires c κs = search needs
 back-requires : tie.Need-back-requires
 back-requires c κs = search needs
 
+step-of-requires : tie.Need-step-of-requires
+step-of-requires c κs = search needs
+
 same-length : tie.Need-same-length
 same-length c = search needs
 
 returns : tie.Need-returns
-returns c = (search convert-answers, search back-writes)
+returns c = ((cc), (cc))
 
 pub yokebean-session-back-spec : {M : Type 1} → statement M
-yokebean-session-back-spec = tie.close (tie.spec session-of-requires back-requires same-length returns)
+yokebean-session-back-spec =
+    tie.close (tie.spec session-of-requires back-requires step-of-requires same-length returns)

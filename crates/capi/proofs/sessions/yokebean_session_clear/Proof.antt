@@ -1,6 +1,5 @@
--- `yokebean_session_clear`: the value as a session, the session's call, and its answer as a value.
+-- The value as a session, the call of the session, and its answer as a value.
 use borrow.Author.Needs.{needs}
-use Rattle.capi.proofs.Values.{clear-answers}
 use Rattle.capi.proofs.sessions.yokebean_session_clear.Statement.{statement}
 use Rattle.capi.proofs.sessions.yokebean_session_clear.Tie as tie
 
@@ -14,7 +13,7 @@ step-of-requires : tie.Need-step-of-requires
 step-of-requires c κs = search needs
 
 returns : tie.Need-returns
-returns c = search clear-answers
+returns c = cc
 
 pub yokebean-session-clear-spec : {M : Type 1} → statement M
 yokebean-session-clear-spec =

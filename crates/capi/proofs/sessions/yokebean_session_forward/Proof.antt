@@ -1,6 +1,5 @@
--- `yokebean_session_forward`: the session's conversion, and the value that was taken.
+-- The value as a session, the call of the session, and its answer as a value.
 use borrow.Author.Needs.{needs}
-use Rattle.capi.proofs.Values.{convert-answers, forward-writes}
 use Rattle.capi.proofs.sessions.yokebean_session_forward.Statement.{statement}
 use Rattle.capi.proofs.sessions.yokebean_session_forward.Tie as tie
 
@@ -10,12 +9,15 @@ session-of-requires c κs = search needs
 forward-requires : tie.Need-forward-requires
 forward-requires c κs = search needs
 
+step-of-requires : tie.Need-step-of-requires
+step-of-requires c κs = search needs
+
 same-length : tie.Need-same-length
 same-length c = search needs
 
 returns : tie.Need-returns
-returns c = (search convert-answers, search forward-writes)
+returns c = ((cc), (cc))
 
 pub yokebean-session-forward-spec : {M : Type 1} → statement M
 yokebean-session-forward-spec =
-    tie.close (tie.spec session-of-requires forward-requires same-length returns)
+    tie.close (tie.spec session-of-requires forward-requires step-of-requires same-length returns)

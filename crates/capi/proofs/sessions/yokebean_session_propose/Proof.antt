@@ -1,6 +1,5 @@
--- `yokebean_session_propose`: the value as a session, the session's call, and its answer as a value.
+-- The value as a session, the call of the session, and its answer as a value.
 use borrow.Author.Needs.{needs}
-use Rattle.capi.proofs.Values.{propose-answers}
 use Rattle.capi.proofs.sessions.yokebean_session_propose.Statement.{statement}
 use Rattle.capi.proofs.sessions.yokebean_session_propose.Tie as tie
 
@@ -14,7 +13,7 @@ step-of-requires : tie.Need-step-of-requires
 step-of-requires c κs = search needs
 
 returns : tie.Need-returns
-returns c = search propose-answers
+returns c = cc
 
 pub yokebean-session-propose-spec : {M : Type 1} → statement M
 yokebean-session-propose-spec =

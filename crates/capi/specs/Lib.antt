@@ -1,2 +1,0 @@
--- Sessions as C has them.
-pub mod Values
