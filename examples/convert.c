@@ -1,4 +1,5 @@
-/* Finds the pair of two models of the field of 343 elements (document 01, example D), checks it and sends a table there and back. */
+/* Finds the pair of two models of the field of 343 elements (document 01, example D), checks it, sends a table there and back and
+ * prints the report. */
 #include "yokebean.h"
 #include <stdio.h>
 
@@ -28,5 +29,10 @@ int main(void) {
     print("table ", table, 6);
     print("image ", image, 6);
     print("again ", again, 6);
+    uint8_t report[64];
+    size_t length = yokebean_session_report_length(step.session);
+    if (length > sizeof report || yokebean_session_report(step.session, report, length).number != 0)
+        return 1;
+    fwrite(report, 1, length, stdout);
     return 0;
 }

@@ -8,7 +8,7 @@
  * that a session call gives back the session it took:
  *    1  p is below 2, above 65,535 or not prime
  *    2  n is not 1 to 16
- *    3  a list of coefficients, read or written, or the output list of a card or sheet has the wrong length
+ *    3  a list of coefficients, read or written, or the output list of a card, sheet or report has the wrong length
  *    4  a coefficient is p or more
  *    5  n does not divide p - 1
  *    6  T1 has a monic divisor of degree 1 to n - 1
@@ -21,6 +21,7 @@
  *   13  a fill bit is 1
  *   21  the session is empty        22  it is loaded without a pair
  *   23  it is not empty             24  it is paired
+ *   25  the ledger holds 512 records
  *
  * Lists: each pointer must point to as many words as its length says (a list of length 0 may have any pointer that is not null and is
  * aligned), and a list that a call writes must not overlap any other list of the same call.
@@ -64,20 +65,29 @@ size_t yokebean_sheet_length(uint32_t n);
 uint32_t yokebean_find(uint32_t p, uint32_t n, const uint16_t *t1, size_t t1_len, const uint16_t *t2, size_t t2_len,
                        uint16_t *s, size_t s_len, uint16_t *r, size_t r_len);
 
-/* A session's value: state 0 is empty, 1 loaded (p, n, t1, t2), 2 paired (also s, r); the first n words of each array count. A value with
- * another state, or with a p, n or coefficient, of those that its state has, that 1, 2 or 4 refuses, counts as a new one. */
+/* A record of the ledger, one for each conversion that succeeded: direction 0 is forward, 1 back. */
+typedef struct {
+    uint32_t direction, residues;
+} yokebean_record;
+
+/* A session's value: state 0 is empty, 1 loaded (p, n, t1, t2), 2 paired (also s, r); the first n words of each array and the first `records`
+ * records of the ledger count. A value with another state, with more than 512 records, with another direction in a record that counts, or with a
+ * p, n or coefficient, of those that its state has, that 1, 2 or 4 refuses, counts as a new one, so without records. Past the records that
+ * count the ledger is not looked at; load, propose, find, forward, back and clear write 0 there unless they refuse. */
 typedef struct {
     uint32_t state, p, n;
     uint16_t t1[16], t2[16], s[16], r[16];
+    uint32_t records;
+    yokebean_record ledger[512];
 } yokebean_session;
 
-/* A session call's answer: the number, and the next session; refused, the session that the call took. */
+/* A session call's answer: the number, and the next session; refused, the session that the call took, byte for byte. */
 typedef struct {
     uint32_t number;
     yokebean_session session;
 } yokebean_step;
 
-/* A new session is empty. */
+/* A new session is empty and has no records. */
 yokebean_session yokebean_session_new(void);
 
 /* Empty to loaded. 23, 1 to 4. */
@@ -90,13 +100,20 @@ yokebean_step yokebean_session_propose(yokebean_session session, const uint16_t 
 /* Loaded to paired, with the finder's pair. 21, 24, 5, 6, 7. */
 yokebean_step yokebean_session_find(yokebean_session session);
 
-/* Converts a table of residues modulo T1, group of n words by group: u -> u(S) mod T2. 21, 22, 9, 10, 4. */
+/* Converts a table of residues modulo T1, group of n words by group: u -> u(S) mod T2. The next session has one record more, of table_len / n
+ * residues, also for an empty table. 21, 22, 9, 10, 4, 25. */
 yokebean_step yokebean_session_forward(yokebean_session session, const uint16_t *table, size_t table_len, uint16_t *out, size_t out_len);
 
-/* Converts a table of residues modulo T2: u -> u(R) mod T1. 21, 22, 9, 10, 4. */
+/* Converts a table of residues modulo T2: u -> u(R) mod T1. It adds a record in the same way. 21, 22, 9, 10, 4, 25. */
 yokebean_step yokebean_session_back(yokebean_session session, const uint16_t *table, size_t table_len, uint16_t *out, size_t out_len);
 
-/* Any state to empty; never refused. */
+/* The report, in every state: the records in order, each as F or B, a blank, the decimal number of residues and a newline; then the forward and
+ * the back total, each a decimal number and a newline. ASCII, without a zero at the end. out has yokebean_session_report_length(session) bytes.
+ * The session given back is always the one that was taken, byte for byte. 3. */
+yokebean_step yokebean_session_report(yokebean_session session, uint8_t *out, size_t out_len);
+size_t yokebean_session_report_length(yokebean_session session);
+
+/* Any state to empty; keeps the ledger; never refused. */
 yokebean_step yokebean_session_clear(yokebean_session session);
 
 /* The reader's answer: kind 1 is a job (T1, T2), kind 2 a pair card (T1, T2, S, R). */

@@ -1,9 +1,22 @@
 -- Answers of calls: a refused call gives back the session it took, and an accepted one the next session.
-use mathlib.Core.Path.{_≡_, refl}
+--   answer-refused, answer-accepted, answer-keeps, answer-number, answer-zero    by the number
+--   step-refused, step-new, step-next    the answer where what is held answers, by the tests of the code
+--   load-answers, propose-answers, find-answers, clear-answers    the answers of the calls
+use mathlib.Core.Path.{_≡_, refl, sym, ap, _∙_}
+use mathlib.Core.Bool.{Bool, true, false, not}
+use mathlib.Core.List.{List}
 use Prim.Native.Nat.{ℕ, zero, suc}
-use native.Mathlib.Omega.{arith}
-use Rattle.session.specs.Session.{answer}
+use borrow.Author.Tests.{not-true, not-false}
+use Rattle.held.specs.Held as Held
+use Rattle.held.specs.Held.{newHeld}
+use Rattle.held.specs.declared.Held.{Held}
+use Rattle.held.specs.declared.HeldStep.{HeldStep}
+use Rattle.ledger.specs.Ledger.{newLedger}
+use Rattle.ledger.specs.declared.Ledger.{Ledger}
+use Rattle.session.specs.Session.{newSession, validSession, counted, heldIf, withHeld, answer, stepWith, load, propose, find, clear}
 use Rattle.session.specs.declared.Session.{Session}
+use Rattle.session.specs.declared.Step.{Step}
+use Rattle.session.proofs.CountsAs.{counts-itself, counts-new, counted-held}
 
 module _ (k : ℕ) (next taken : Session) where
   pub answer-refused : (k ≡ 0 → ⊥) → record { number = k; session = taken } ≡ answer k next taken
@@ -33,3 +46,40 @@ module _ (k : ℕ) (next taken : Session) where
       go : (k : ℕ) → answer k next taken .number ≡ k
       go zero = refl
       go (suc k) = refl
+
+  pub answer-zero : k ≡ 0 → answer k next taken .session ≡ next
+  unfolding answer
+  answer-zero e = rw e
+
+-- what is held answers y
+module _ (x : Session) (y : HeldStep) where
+  pub step-refused : (y .number ≡ 0 → ⊥) → record { number = y .number; session = x } ≡ stepWith x y
+  step-refused h = answer-refused (y .number) _ x h
+
+  module _ (z : y .number ≡ 0) (b : Bool) (e : b ≡ validSession x) where
+    pub step-new : not b ≡ true → (l : Ledger) → l ≡ newLedger
+        → record { number = 0; session = record { held = y .held; ledger = l } } ≡ stepWith x y
+    step-new h l f =
+        answer-accepted (y .number) _ x z _
+        (ap (λ m. record { held = y .held; ledger = m }) (f ∙ ap (λ w. w .ledger) (counts-new x b e (not-true b h) newSession refl)))
+
+    pub step-next : not b ≡ false → record { number = 0; session = record { held = y .held; ledger = x .ledger } } ≡ stepWith x y
+    step-next h = answer-accepted (y .number) _ x z _ (ap (λ w. withHeld w (y .held)) (counts-itself x b e (not-false b h)))
+
+-- the calls
+module _ (x : Session) (b : Bool) (e : b ≡ validSession x) (z : Held) (f : z ≡ heldIf b (x .held)) (y : HeldStep) (r : Step) (g : r ≡ stepWith x y) where
+  own : z ≡ counted x .held
+  own = f ∙ counted-held x b e
+
+  pub load-answers : (p n : ℕ) (t1 t2 : List ℕ) → y ≡ Held.load z p n t1 t2 → r ≡ load x p n t1 t2
+  load-answers p n t1 t2 h = g ∙ ap (stepWith x) (h ∙ ap (λ w. Held.load w p n t1 t2) own)
+
+  pub propose-answers : (s u : List ℕ) → y ≡ Held.propose z s u → r ≡ propose x s u
+  propose-answers s u h = g ∙ ap (stepWith x) (h ∙ ap (λ w. Held.propose w s u) own)
+
+  pub find-answers : y ≡ Held.find z → r ≡ find x
+  find-answers h = g ∙ ap (stepWith x) (h ∙ ap Held.find own)
+
+pub clear-answers : (x : Session) (h : Held) (r : Step) → h ≡ newHeld → r ≡ stepWith x (record { number = 0; held = h }) → r ≡ clear x
+unfolding answer
+clear-answers x h r e g = g ∙ ap (λ w. stepWith x (record { number = 0; held = w })) e

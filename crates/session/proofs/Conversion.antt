@@ -1,16 +1,13 @@
 -- Conversions: one is not refused exactly where the session is valid and paired, 9, 10 and 4 do not apply to the table, and the ledger has room; then the
 -- lent list holds the table converted, and the session has one record more.
 use mathlib.Core.Path.{_≡_, refl, sym, ap, _∙_}
-use mathlib.Core.Bool.{Bool, true, false, not}
+use mathlib.Core.Bool.{Bool, true, false}
 use mathlib.Core.List.{List, [], _∷_}
 use Prim.Native.Nat.{ℕ, zero, suc, _/_, _≤_, _<_}
-use native.Mathlib.Nat as Nat
 use native.Mathlib.Omega.{arith}
-use borrow.Author.Tests.{not-true, not-false, eq-eqb, ne-eqb, eqb-false}
+use borrow.Author.Tests.{eq-eqb, ne-eqb, eqb-false}
 use lib.Dec.{eqb}
 use lib.ListN.{length}
-use mir.Syntax.{w32}
-use mir.Val.{Fits}
 use Rattle.refusal.specs.Refusal.{refuse, written}
 use Rattle.held.specs.Held.{View, empty, loaded, paired, view, viewAs, valid, validAs, validHeld, t1Of, t2Of, sOf, rOf}
 use Rattle.held.specs.ViewState.{viewState}
@@ -20,13 +17,13 @@ use Rattle.held.proofs.Contents.{empty-view, loaded-view, paired-view, paired-v
 use Rattle.held.proofs.Valid.{valid-size, maps-valid}
 use Rattle.ledger.specs.Ledger.{mostRecords}
 use Rattle.ledger.specs.declared.Direction.{Direction}
-use Rattle.table.specs.Table.{converted, tableNumber}
+use Rattle.table.specs.Table.{mostWords, converted, tableNumber}
 use Rattle.table.proofs.Convertible as Convertible
-use Rattle.session.specs.MapOf.{MapOf}
-use Rattle.session.specs.Session.{newSession, validSession, counted, orElse, convertFrom, convertNumber, outputBy, recorded, convert}
+use Rattle.session.specs.MapOf.{MapOf, Recordable}
+use Rattle.session.specs.Session.{newSession, validSession, counted, heldIf, answer, orElse, convertFrom, convertNumber, outputBy, recorded, convert, forwardOutput, backOutput}
 use Rattle.session.specs.declared.Session.{Session}
 use Rattle.session.specs.declared.Step.{Step}
-use Rattle.session.proofs.Answer.{answer-refused, answer-accepted}
+use Rattle.session.proofs.Answer.{answer-accepted}
 use Rattle.session.proofs.CountsAs.{counts-itself, counts-new, valid-parts}
 
 -- the number of a conversion, by what the session counts as
@@ -43,43 +40,79 @@ first-is : (k rest : ℕ) → (k ≡ 0 → ⊥) → k ≡ orElse k rest
 first-is zero rest z = absurd (z refl)
 first-is (suc k) rest z = refl
 
--- by the tests of the code
-module _ (x : Session) (table out : List ℕ) (b : Bool) (e : b ≡ validSession x) where
-  pub convert-new : not b ≡ true → 21 ≡ convertNumber x table out
-  convert-new h = sym (number-new x table out (sym e ∙ not-true b h))
+-- by the tests of the code, of a valid value and k records
+module _ (x : Held) (v : validHeld x ≡ true) (k : ℕ) (table out : List ℕ) where
+  pub convert-empty : x .state ≡ Empty → 21 ≡ convertFrom (view x) k table out
+  unfolding convertFrom
+  convert-empty f = rw (empty-view x _ (valid-state x v) f)
 
-  module _ (h : not b ≡ false) where
-    is-valid : validSession x ≡ true
-    is-valid = sym e ∙ not-false b h
+  pub convert-loaded : x .state ≡ Loaded → 22 ≡ convertFrom (view x) k table out
+  unfolding convertFrom
+  convert-loaded f = rw (loaded-view x _ (valid-state x v) f)
 
-    own-state : x .held .state ≡ viewState (view (x .held))
-    own-state = valid-state (x .held) (valid-parts x is-valid .1)
+  module _ (f : x .state ≡ Paired) where
+    pub paired-positive : 1 ≤ x .n
+    paired-positive = valid-size (x .p) (x .n) _ (paired-valid x _ (valid-state x v) f) .2
 
-    pub convert-empty : x .held .state ≡ Empty → 21 ≡ convertNumber x table out
+    number-paired : convertFrom (view x) k table out ≡ orElse (tableNumber (x .p) (x .n) table out) (refuse 25 (eqb k mostRecords) 0)
     unfolding convertFrom
-    convert-empty f = rw (number-valid x table out is-valid, empty-view (x .held) _ own-state f)
+    number-paired = rw (paired-view x _ (valid-state x v) f)
 
-    pub convert-loaded : x .held .state ≡ Loaded → 22 ≡ convertNumber x table out
+    module _ (j : ℕ) (g : j ≡ tableNumber (x .p) (x .n) table out) where
+      pub convert-refused : (j ≡ 0 → ⊥) → j ≡ convertFrom (view x) k table out
+      convert-refused z = rw (number-paired, ← g) (first-is j _ z)
+
+      pub convert-full : j ≡ 0 → k ≡ mostRecords → 25 ≡ convertFrom (view x) k table out
+      convert-full z full = rw (number-paired, ← g, z, eq-eqb k mostRecords full)
+
+      pub convert-accepted : j ≡ 0 → (k ≡ mostRecords → ⊥) → 0 ≡ convertFrom (view x) k table out
+      convert-accepted z room = rw (number-paired, ← g, z, ne-eqb k mostRecords room)
+
+-- a conversion that can be recorded
+module _ (n k number words : ℕ) (h : Recordable n k number words) (z : number ≡ 0) where
+  pub degree-given : 0 < n
+  degree-given = h .positive z
+
+  pub words-given : words ≤ mostWords
+  words-given = h .fits z
+
+  pub room-given : k < mostRecords
+  room-given = h .room z
+
+pub answer-recorded : (number words r : ℕ) (d : Direction) (x y : Session) → number ≡ 0 → r ≡ words / x .held .n → y ≡ recorded x d r
+    → record { number = 0; session = y } ≡ answer number (recorded x d (words / x .held .n)) x
+answer-recorded number words r d x y z e f = answer-accepted number _ x z y (f ∙ ap (recorded x d) e)
+
+-- what a number 0 says of a value and k records
+module _ (x : Held) (k : ℕ) (table out : List ℕ) where
+  module _ (h : convertFrom (view x) k table out ≡ 0) where
+    by-view : (v : View) → convertFrom v k table out ≡ 0 → viewState v ≡ Paired
+    unfolding convertFrom viewState
+    by-view empty z = absurd (omega arith)
+    by-view (loaded p n t1 t2) z = absurd (omega arith)
+    by-view (paired p n t1 t2 s r) z = refl
+
+    zero-paired : viewState (view x) ≡ Paired
+    zero-paired = by-view (view x) h
+
+    neither : (j : ℕ) (full : Bool) → orElse j (refuse 25 full 0) ≡ 0 → (j ≡ 0) × (full ≡ false)
+    neither zero true z = absurd (omega arith)
+    neither zero false z = (refl, refl)
+    neither (suc j) full z = absurd (omega arith)
+
+    zero-parts : (tableNumber (x .p) (x .n) table out ≡ 0) × (eqb k mostRecords ≡ false)
     unfolding convertFrom
-    convert-loaded f = rw (number-valid x table out is-valid, loaded-view (x .held) _ own-state f)
+    zero-parts = neither _ _ (rw (paired-view x Paired (sym zero-paired) refl) at h)
 
-    module _ (f : x .held .state ≡ Paired) where
-      pub paired-positive : 1 ≤ x .held .n
-      paired-positive = valid-size (x .held .p) (x .held .n) _ (paired-valid (x .held) _ own-state f) .2
+    zero-positive : 0 < x .n
+    zero-positive = omega (arith, valid-size (x .p) (x .n) _ (paired-valid x Paired (sym zero-paired) refl) .2)
 
-      number-paired : convertNumber x table out ≡ orElse (tableNumber (x .held .p) (x .held .n) table out) (refuse 25 (eqb (x .ledger .count) mostRecords) 0)
-      unfolding convertFrom
-      number-paired = rw (number-valid x table out is-valid, paired-view (x .held) _ own-state f)
+  module _ (j : ℕ) (e : j ≡ convertFrom (view x) k table out) (h : j ≡ 0) where
+    pub map-valid : (t s : List ℕ) → MapOf x t s → valid (x .p) (x .n) (t ∷ s ∷ []) ≡ true
+    map-valid t s m = m .is-valid (zero-paired (sym e ∙ h))
 
-      module _ (k : ℕ) (g : k ≡ tableNumber (x .held .p) (x .held .n) table out) where
-        pub convert-refused : (k ≡ 0 → ⊥) → k ≡ convertNumber x table out
-        convert-refused z = rw (number-paired, ← g) (first-is k _ z)
-
-        pub convert-full : k ≡ 0 → x .ledger .count ≡ mostRecords → 25 ≡ convertNumber x table out
-        convert-full z full = rw (number-paired, ← g, z, eq-eqb (x .ledger .count) mostRecords full)
-
-        pub convert-accepted : k ≡ 0 → (x .ledger .count ≡ mostRecords → ⊥) → 0 ≡ convertNumber x table out
-        convert-accepted z room = rw (number-paired, ← g, z, ne-eqb (x .ledger .count) mostRecords room)
+    pub table-given : tableNumber (x .p) (x .n) table out ≡ 0
+    table-given = zero-parts (sym e ∙ h) .0
 
 -- a conversion that is not refused
 module _ (x : Session) (table out : List ℕ) where
@@ -91,31 +124,22 @@ module _ (x : Session) (table out : List ℕ) where
         go true e = refl
         go false e = absurd (omega (arith, h, number-new x table out e))
 
-    by-view : (v : View) → convertFrom v (x .ledger .count) table out ≡ 0 → viewState v ≡ Paired
-    unfolding convertFrom viewState
-    by-view empty z = absurd (omega arith)
-    by-view (loaded p n t1 t2) z = absurd (omega arith)
-    by-view (paired p n t1 t2 s r) z = refl
+    own-zero : convertFrom (view (x .held)) (x .ledger .count) table out ≡ 0
+    own-zero = sym (number-valid x table out accepted-valid) ∙ h
 
     pub is-paired : viewState (view (x .held)) ≡ Paired
-    is-paired = by-view (view (x .held)) (sym (number-valid x table out accepted-valid) ∙ h)
-
-    neither : (k : ℕ) (full : Bool) → orElse k (refuse 25 full 0) ≡ 0 → (k ≡ 0) × (full ≡ false)
-    neither zero true z = absurd (omega arith)
-    neither zero false z = (refl, refl)
-    neither (suc k) full z = absurd (omega arith)
-
-    accepted : (tableNumber (x .held .p) (x .held .n) table out ≡ 0) × (eqb (x .ledger .count) mostRecords ≡ false)
-    unfolding convertFrom
-    accepted =
-        let z : convertFrom (view (x .held)) (x .ledger .count) table out ≡ 0 = sym (number-valid x table out accepted-valid) ∙ h in
-        neither _ _ (rw (paired-view (x .held) Paired (sym is-paired) refl) at z)
+    is-paired = zero-paired (x .held) (x .ledger .count) table out own-zero
 
     pub table-accepted : tableNumber (x .held .p) (x .held .n) table out ≡ 0
-    table-accepted = accepted .0
+    table-accepted = zero-parts (x .held) (x .ledger .count) table out own-zero .0
 
     pub has-room : x .ledger .count < mostRecords
-    has-room = omega (arith, valid-parts x accepted-valid .0, eqb-false (x .ledger .count) mostRecords (accepted .1))
+    has-room =
+        omega (
+          arith,
+          valid-parts (x .held) (x .ledger .count) accepted-valid .0,
+          eqb-false (x .ledger .count) mostRecords (zero-parts (x .held) (x .ledger .count) table out own-zero .1),
+        )
 
     pub output-accepted : (t s : List ℕ) → outputBy x t s table out ≡ converted (x .held .p) (x .held .n) t s table
     unfolding outputBy
@@ -128,34 +152,54 @@ module _ (x : Session) (table out : List ℕ) where
       number-valid x table out v
       ∙ rw (paired-view (x .held) Paired (sym e) refl, t, ne-eqb (x .ledger .count) mostRecords (λ full. omega (arith, room, full)))
 
--- the same of a number that is the conversion's
-module _ (d : Direction) (x : Session) (table out : List ℕ) (k : ℕ) (e : k ≡ convertNumber x table out) where
-  pub convert-refuses : (k ≡ 0 → ⊥) → record { number = k; session = x } ≡ convert d x table out
-  unfolding convert
-  convert-refuses h = rw e (answer-refused (convertNumber x table out) _ x (λ z. h (e ∙ z)))
+-- the same by what the session counts as holding
+module _ (x : Session) (b : Bool) (e : b ≡ validSession x) (z : Held) (f : z ≡ heldIf b (x .held)) (table out : List ℕ) where
+  number-is : convertFrom (view z) (x .ledger .count) table out ≡ convertNumber x table out
+  number-is = ap (λ w. convertFrom (view w) (x .ledger .count) table out) f ∙ go b e
+    where
+      go : (b : Bool) → b ≡ validSession x → convertFrom (view (heldIf b (x .held))) (x .ledger .count) table out ≡ convertNumber x table out
+      go true e = sym (number-valid x table out (sym e))
+      go false e = unfold convertFrom view validHeld validAs viewAs in sym (number-new x table out (sym e))
 
-  module _ (h : k ≡ 0) where
-    pub map-valid : (t s : List ℕ) → MapOf (x .held) t s → valid (x .held .p) (x .held .n) (t ∷ s ∷ []) ≡ true
-    map-valid t s m = m .is-valid (is-paired x table out (sym e ∙ h))
+  module _ (k : ℕ) (g : k ≡ convertFrom (view z) (x .ledger .count) table out) where
+    own-number : k ≡ convertNumber x table out
+    own-number = g ∙ number-is
 
-    pub table-given : tableNumber (x .held .p) (x .held .n) table out ≡ 0
-    table-given = table-accepted x table out (sym e ∙ h)
+    pub recordable : Recordable (x .held .n) (x .ledger .count) k (length table)
+    recordable =
+        record {
+          positive = λ h. zero-positive (x .held) (x .ledger .count) table out (own-zero x table out (sym own-number ∙ h));
+          fits = λ h. Convertible.table-given (x .held .p) (x .held .n) table out (table-accepted x table out (sym own-number ∙ h)) .few;
+          room = λ h. has-room x table out (sym own-number ∙ h);
+        }
 
-    pub room-given : x .ledger .count < mostRecords
-    room-given = has-room x table out (sym e ∙ h)
-
-    pub degree-positive : 0 < x .held .n
-    degree-positive =
-        let own = paired-valid (x .held) Paired (sym (is-paired x table out (sym e ∙ h))) refl in
-        omega (arith, valid-size (x .held .p) (x .held .n) _ own .2)
-
-    -- a table of up to 32,768 words has as many residues at most
-    pub residues-fit : Fits w32 (length table / x .held .n)
-    residues-fit = record { fits = omega (arith, Nat.div-le-self (length table) (x .held .n), Convertible.table-given (x .held .p) (x .held .n) table out table-given .few) }
-
-    pub convert-records : (z : Session) → z ≡ recorded x d (length table / x .held .n) → record { number = 0; session = z } ≡ convert d x table out
+    pub convert-answers : (d : Direction) (r : Step) → r ≡ answer k (recorded x d (length table / x .held .n)) x → r ≡ convert d x table out
     unfolding convert
-    convert-records z f = answer-accepted (convertNumber x table out) _ x (sym e ∙ h) z f
+    convert-answers d r h = h ∙ ap (λ j. answer j (recorded x d (length table / x .held .n)) x) own-number
+
+  -- what is written, by T and S of what is held
+  output-is : (t s : Held → List ℕ) → written (convertFrom (view z) (x .ledger .count) table out) (converted (z .p) (z .n) (t z) (s z) table) out
+      ≡ outputBy x (t (x .held)) (s (x .held)) table out
+  unfolding outputBy
+  output-is t s =
+      ap (λ j. written j (converted (z .p) (z .n) (t z) (s z) table) out) number-is
+      ∙ ap (λ w. written (convertNumber x table out) (converted (w .p) (w .n) (t w) (s w) table) out) f
+      ∙ go b e
+    where
+      go : (b : Bool) → b ≡ validSession x
+          → written (convertNumber x table out) (converted (heldIf b (x .held) .p) (heldIf b (x .held) .n) (t (heldIf b (x .held))) (s (heldIf b (x .held))) table) out
+          ≡ written (convertNumber x table out) (converted (x .held .p) (x .held .n) (t (x .held)) (s (x .held)) table) out
+      go true e = refl
+      go false e = rw (number-new x table out (sym e))
+
+  module _ (after : List ℕ) where
+    pub forward-writes : after ≡ written (convertFrom (view z) (x .ledger .count) table out) (converted (z .p) (z .n) (t2Of z) (sOf z) table) out
+        → after ≡ forwardOutput x table out
+    forward-writes h = h ∙ output-is t2Of sOf
+
+    pub back-writes : after ≡ written (convertFrom (view z) (x .ledger .count) table out) (converted (z .p) (z .n) (t1Of z) (rOf z) table) out
+        → after ≡ backOutput x table out
+    back-writes h = h ∙ output-is t1Of rOf
 
 -- the two maps
 module _ (x : Held) where

@@ -34,9 +34,9 @@ module _ (x : Session) (l : Ledger) (free : l .count < mostRecords) (table out :
       → Undoes (x .held .p) (x .held .n) (substitute (x .held .p) t' s') (substitute (x .held .p) t s)
       → outputBy (withLedger x l) t' s' (outputBy x t s table out) lent ≡ table
   there-and-back {t} {s} wt ws t' s' undoes =
-      let own = valid-parts x (accepted-valid x table out h) .1 in
+      let own = valid-parts (x .held) (x .ledger .count) (accepted-valid x table out h) .1 in
       let again : convertNumber (withLedger x l) (converted (x .held .p) (x .held .n) t s table) lent ≡ 0 =
-      number-accepted (withLedger x l) _ lent (sym (within-limit (withLedger x l) (omega arith) true (sym own))) (is-paired x table out h)
+      number-accepted (withLedger x l) _ lent (sym (within-limit (x .held) (l .count) (omega arith) true (sym own))) (is-paired x table out h)
       (given-table (converted-convertible convertible big wt ws lent room)) free in
       ap (λ image. outputBy (withLedger x l) t' s' image lent) (output-accepted x table out h t s)
       ∙ output-accepted (withLedger x l) _ lent again t' s'

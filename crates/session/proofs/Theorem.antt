@@ -26,7 +26,7 @@ use Rattle.table.proofs.Groups.{converted-images}
 use Rattle.session.specs.Session.{newSession, validSession, counted, withHeld, answer, convertNumber, outputBy, recorded, convert, reportText, reportNumber}
 use Rattle.session.specs.Theorem.{Call, callLoad, callPropose, callFind, callConvert, callReport, callClear, next, run, EveryRun, RefusalsChangeNothing, GroupByGroup, BackAgain, ConversionAddsRecord, OthersKeepLedger, whereZero, convertedBy, convertedIn, TotalsCount}
 use Rattle.session.specs.declared.Session.{Session}
-use Rattle.session.proofs.Answer.{answer-keeps, answer-number}
+use Rattle.session.proofs.Answer.{answer-keeps, answer-number, answer-zero}
 use Rattle.session.proofs.Conversion.{is-paired, table-accepted, has-room, output-accepted}
 use Rattle.session.proofs.CountsAs.{counts-itself, within-limit}
 use Rattle.session.proofs.RoundTrip as RoundTrip
@@ -39,7 +39,7 @@ record Kept (x : Session) : Type 0 where
   long : length (x .ledger .records) ≡ mostRecords
 
 itself : {x : Session} → Kept x → x ≡ counted x
-itself {x} h = counts-itself x true (within-limit x (h .few) true (sym (reached-valid (h .reached)))) refl
+itself {x} h = counts-itself x true (within-limit (x .held) (x .ledger .count) (h .few) true (sym (reached-valid (h .reached)))) refl
 
 kept-counted : {x : Session} → Kept x → Kept (counted x)
 kept-counted h = subst Kept (itself h) h
@@ -138,10 +138,6 @@ others-keep-ledger cs =
       report-keeps-ledger = λ out. refl;
       clear-keeps-ledger = e;
     }
-
-answer-zero : (k : ℕ) (z x : Session) → k ≡ 0 → answer k z x .session ≡ z
-unfolding answer
-answer-zero k z x e = rw e
 
 recorded-behind : {x : Session} → Kept x → x .ledger .count < mostRecords → (d : Direction) (k : ℕ)
     → recordsOf (recorded x d k .ledger) ≡ recordsOf (x .ledger) ++ (record { direction = d; residues = k } ∷ [])

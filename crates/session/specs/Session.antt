@@ -1,8 +1,10 @@
 -- The session (document 01, "The session"; document 02, S-2): a value around what is held and the ledger. "The calls take a session and give the next
 -- one."
 --   newSession                  "A new session starts empty"; "only a new session begins without records"
---   validSession x              1, 2 and 4 refuse no item of x, and none is past its limit: the records are up to 512
+--   validWith h k               1, 2 and 4 refuse no item of h, and k records are not past their limit: they are up to 512
+--   validSession x              that of x
 --   counted x                   what x counts as: a value made otherwise "counts as a new one"
+--   heldIf b h                  h, or nothing where b is false
 --   withHeld x h                x with h for what is held
 --   answer k next taken         number k: the next session where k is 0, else the session taken
 --   stepWith x y                the answer where what x holds answers y
@@ -42,8 +44,11 @@ use Rattle.session.specs.declared.Step.{Step}
 abbrev pub newSession : Session
 newSession = record { held = newHeld; ledger = newLedger }
 
-unfoldable pub validSession : Session → Bool
-validSession x = leb (x .ledger .count) mostRecords && validHeld (x .held)
+unfoldable pub validWith : Held → ℕ → Bool
+validWith h k = leb k mostRecords && validHeld h
+
+abbrev pub validSession : Session → Bool
+validSession x = validWith (x .held) (x .ledger .count)
 
 abbrev pub orNew : Bool → Session → Session
 orNew true x = x
@@ -51,6 +56,10 @@ orNew false x = newSession
 
 unfoldable pub counted : Session → Session
 counted x = orNew (validSession x) x
+
+abbrev pub heldIf : Bool → Held → Held
+heldIf true h = h
+heldIf false h = newHeld
 
 abbrev pub withHeld : Session → Held → Session
 withHeld x h = record { held = h; ledger = x .ledger }

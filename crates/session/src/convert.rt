@@ -1,7 +1,10 @@
 // Forward and back: a table is converted by the map of a modulus and a polynomial, T2 and S or T1 and R, and the ledger gains a record.
 use crate::Session;
 use crate::Step;
+use crate::counted::held_if;
+use crate::counted::is_valid;
 use array::Word;
+use held::Held;
 use held::State;
 use held::value::front;
 use ledger::Direction;
@@ -12,23 +15,21 @@ use table::number::table_number;
 ghost use mathlib.Core.Bool.{true};
 ghost use mathlib.Core.List.{[], _∷_};
 ghost use mathlib.Core.Path.{_≡_};
-ghost use Prim.Native.Nat.{_<_};
+ghost use Prim.Native.Nat.{_/_, _≤_, _<_};
 ghost use lib.ListN.{take};
-ghost use Rattle.held.specs.Held.{valid};
+ghost use Rattle.refusal.specs.Refusal.{written};
+ghost use Rattle.held.specs.Held.{view, valid, validHeld, t1Of, t2Of, sOf, rOf};
 ghost use Rattle.ledger.specs.Ledger.{mostRecords};
 ghost use Rattle.ledger.specs.declared.Direction.the-variants.{Forward, Back};
-ghost use Rattle.table.specs.Table.{converted, tableNumber};
-ghost use Rattle.session.specs.Session.{convertNumber, outputBy, recorded, convert as convertOf, forwardOutput, backOutput};
-ghost use Rattle.session.specs.MapOf.{MapOf};
+ghost use Rattle.table.specs.Table.{mostWords, converted, tableNumber};
+ghost use Rattle.session.specs.Session.{answer, convertFrom, recorded, convert as convertOf, forwardOutput, backOutput};
+ghost use Rattle.session.specs.MapOf.{MapOf, Recordable};
 
-// The number of a conversion.
-fn convert_number(x: Session, table: &[Word], out: &[Word]) -> u32
-    ensures { λ r. ⌜ r ≡ convertNumber x (now (table .entry)) (now (out .entry)) ⌝ }
+// The number of a conversion by what is held, where `count` records count.
+fn convert_number(held: Held, count: u32, table: &[Word], out: &[Word]) -> u32
+    requires { ⌜ validHeld held ≡ true ⌝ }
+    ensures { λ r. ⌜ r ≡ convertFrom (view held) count (now (table .entry)) (now (out .entry)) ⌝ }
 {
-    if !x.is_valid() {
-        return 21;
-    }
-    let held = x.held;
     let state = held.state;
     match state {
         State::Empty => 21,
@@ -38,7 +39,7 @@ fn convert_number(x: Session, table: &[Word], out: &[Word]) -> u32
             if number != 0 {
                 return number;
             }
-            if x.ledger.count == Ledger::RECORDS as u32 { 25 } else { 0 }
+            if count == Ledger::RECORDS as u32 { 25 } else { 0 }
         }
     }
 }
@@ -59,6 +60,58 @@ fn convert_words(
     convert_table(p, n, front(&t, n), front(&s, n), table, out);
 }
 
+// The number of a conversion by a map of what is held: where it is 0 the output is written.
+fn convert_by(
+    held: Held,
+    count: u32,
+    t: [Word; Session::DEGREE],
+    s: [Word; Session::DEGREE],
+    table: &[Word],
+    out: &mut [Word],
+) -> u32
+    requires { ⌜ validHeld held ≡ true ⌝ }
+    requires { ⌜ MapOf held (take (held .n) t) (take (held .n) s) ⌝ }
+    ensures { λ r. ⌜ r ≡ convertFrom (view held) count (now (table .entry)) (now (out .entry)) ⌝ }
+    ensures { λ _. ⌜ now (out .exit) ≡ written (convertFrom (view held) count (now (table .entry)) (now (out .entry))) (converted (held .p) (held .n) (take (held .n) t) (take (held .n) s) (now (table .entry))) (now (out .entry)) ⌝ }
+{
+    let number = convert_number(held, count, table, out);
+    if number == 0 {
+        convert_words(held.p, held.n, t, s, table, out);
+    }
+    number
+}
+
+// Each group of n words of the table becomes its image under u ↦ u(S) modulo T2: 21, 22, 9, 10, 4, 25.
+pub fn forward_by(held: Held, count: u32, table: &[Word], out: &mut [Word]) -> u32
+    requires { ⌜ validHeld held ≡ true ⌝ }
+    ensures { λ r. ⌜ r ≡ convertFrom (view held) count (now (table .entry)) (now (out .entry)) ⌝ }
+    ensures { λ _. ⌜ now (out .exit) ≡ written (convertFrom (view held) count (now (table .entry)) (now (out .entry))) (converted (held .p) (held .n) (t2Of held) (sOf held) (now (table .entry))) (now (out .entry)) ⌝ }
+{
+    let t = held.t2;
+    let s = held.s;
+    convert_by(held, count, t, s, table, out)
+}
+
+// The same under u ↦ u(R) modulo T1.
+pub fn back_by(held: Held, count: u32, table: &[Word], out: &mut [Word]) -> u32
+    requires { ⌜ validHeld held ≡ true ⌝ }
+    ensures { λ r. ⌜ r ≡ convertFrom (view held) count (now (table .entry)) (now (out .entry)) ⌝ }
+    ensures { λ _. ⌜ now (out .exit) ≡ written (convertFrom (view held) count (now (table .entry)) (now (out .entry))) (converted (held .p) (held .n) (t1Of held) (rOf held) (now (table .entry))) (now (out .entry)) ⌝ }
+{
+    let t = held.t1;
+    let r = held.r;
+    convert_by(held, count, t, r, table, out)
+}
+
+// How many residues of n words a table has.
+pub fn residues_of(n: u32, words: usize) -> u32
+    requires { ⌜ (0 < n) × (words ≤ mostWords) ⌝ }
+    ensures { λ r. ⌜ r ≡ words / n ⌝ }
+{
+    let residues = words / n as usize;
+    residues as u32
+}
+
 impl Session {
     // The session with one record more.
     fn recorded(mut self, direction: Direction, residues: u32) -> Session
@@ -74,20 +127,11 @@ impl Session {
         self
     }
 
-    // The conversion by a map of what is held: where the number is 0 the output is written and the conversion recorded.
-    fn convert(
-        self,
-        direction: Direction,
-        t: [Word; Session::DEGREE],
-        s: [Word; Session::DEGREE],
-        table: &[Word],
-        out: &mut [Word],
-    ) -> Step
-        requires { ⌜ MapOf (self .held) (take (self .held .n) t) (take (self .held .n) s) ⌝ }
-        ensures { λ r. ⌜ r ≡ convertOf direction self (now (table .entry)) (now (out .entry)) ⌝ }
-        ensures { λ _. ⌜ now (out .exit) ≡ outputBy self (take (self .held .n) t) (take (self .held .n) s) (now (table .entry)) (now (out .entry)) ⌝ }
+    // The answer of a conversion with this number, of so many words: where the number is 0 the conversion is recorded.
+    fn answered(self, direction: Direction, number: u32, words: usize) -> Step
+        requires { ⌜ Recordable (self .held .n) (self .ledger .count) number words ⌝ }
+        ensures { λ r. ⌜ r ≡ answer number (recorded self direction (words / self .held .n)) self ⌝ }
     {
-        let number = convert_number(self, table, out);
         if number != 0 {
             return Step {
                 number: number,
@@ -95,11 +139,10 @@ impl Session {
             };
         }
         let held = self.held;
-        convert_words(held.p, held.n, t, s, table, out);
-        let residues = table.len() / held.n as usize;
+        let residues = residues_of(held.n, words);
         Step {
             number: 0,
-            session: self.recorded(direction, residues as u32),
+            session: self.recorded(direction, residues),
         }
     }
 
@@ -109,9 +152,9 @@ impl Session {
         ensures { λ _. ⌜ now (out .exit) ≡ forwardOutput self (now (table .entry)) (now (out .entry)) ⌝ }
     {
         let held = self.held;
-        let t = held.t2;
-        let s = held.s;
-        self.convert(Direction::Forward, t, s, table, out)
+        let count = self.ledger.count;
+        let number = forward_by(held_if(is_valid(held, count), held), count, table, out);
+        self.answered(Direction::Forward, number, table.len())
     }
 
     // The same under u ↦ u(R) modulo T1.
@@ -120,8 +163,8 @@ impl Session {
         ensures { λ _. ⌜ now (out .exit) ≡ backOutput self (now (table .entry)) (now (out .entry)) ⌝ }
     {
         let held = self.held;
-        let t = held.t1;
-        let r = held.r;
-        self.convert(Direction::Back, t, r, table, out)
+        let count = self.ledger.count;
+        let number = back_by(held_if(is_valid(held, count), held), count, table, out);
+        self.answered(Direction::Back, number, table.len())
     }
 }

@@ -3,16 +3,18 @@
 //   counted   what a session counts as
 //   convert   Session::forward and Session::back: tables of residues, each a record of the ledger
 //   report    Session::report and Session::report_length: the ledger's text
-mod convert;
-mod counted;
+pub mod convert;
+pub mod counted;
 mod report;
 
+use crate::counted::held_if;
+use crate::counted::is_valid;
 use array::Word;
 use held::Held;
 use held::HeldStep;
 use ledger::Ledger;
 ghost use mathlib.Core.Path.{_≡_};
-ghost use Rattle.session.specs.Session.{newSession, withHeld, answer, load as loadOf, propose as proposeOf, find as findOf, clear as clearOf};
+ghost use Rattle.session.specs.Session.{newSession, validSession, stepWith, load as loadOf, propose as proposeOf, find as findOf, clear as clearOf};
 
 // What a session holds is what a value of the crate held does; the ledger has the conversions that succeeded.
 pub struct Session {
@@ -24,23 +26,6 @@ pub struct Session {
 pub struct Step {
     pub number: u32,
     pub session: Session,
-}
-
-// The answer where what is held answers y: x with the next value, or the session that was taken.
-fn step_with(taken: Session, x: Session, y: HeldStep) -> Step
-    ensures { λ r. ⌜ r ≡ answer (y .number) (withHeld x (y .held)) taken ⌝ }
-{
-    if y.number != 0 {
-        return Step {
-            number: y.number,
-            session: taken,
-        };
-    }
-    let held = y.held;
-    Step {
-        number: 0,
-        session: x.with_held(held),
-    }
 }
 
 impl Session {
@@ -63,50 +48,74 @@ impl Session {
         }
     }
 
-    // The session with another held value.
-    fn with_held(mut self, held: Held) -> Session
-        ensures { λ r. ⌜ r ≡ withHeld self held ⌝ }
+    // The answer where what is held answers y: the session with the next value, or the session that was taken.
+    fn step_with(mut self, valid: bool, y: HeldStep) -> Step
+        requires { ⌜ valid ≡ validSession self ⌝ }
+        ensures { λ r. ⌜ r ≡ stepWith self y ⌝ }
     {
+        if y.number != 0 {
+            return Step {
+                number: y.number,
+                session: self,
+            };
+        }
+        let held = y.held;
+        if !valid {
+            let ledger = Ledger::new();
+            let made = Session {
+                held: held,
+                ledger: ledger,
+            };
+            return Step {
+                number: 0,
+                session: made,
+            };
+        }
         self.held = held;
-        self
+        Step {
+            number: 0,
+            session: self,
+        }
     }
 
     // The session with two models: 23, 1 to 4.
     pub fn load(self, p: u32, n: u32, t1: &[Word], t2: &[Word]) -> Step
         ensures { λ r. ⌜ r ≡ loadOf self p n (now (t1 .entry)) (now (t2 .entry)) ⌝ }
     {
-        let x = self.counted();
-        let held = x.held;
-        step_with(self, x, held.load(p, n, t1, t2))
+        let held = self.held;
+        let valid = is_valid(held, self.ledger.count);
+        self.step_with(valid, held_if(valid, held).load(p, n, t1, t2))
     }
 
     // The session with a pair that the checker accepts: 21, 24, 3, 4, 8.
     pub fn propose(self, s: &[Word], r: &[Word]) -> Step
         ensures { λ y. ⌜ y ≡ proposeOf self (now (s .entry)) (now (r .entry)) ⌝ }
     {
-        let x = self.counted();
-        let held = x.held;
-        step_with(self, x, held.propose(s, r))
+        let held = self.held;
+        let valid = is_valid(held, self.ledger.count);
+        self.step_with(valid, held_if(valid, held).propose(s, r))
     }
 
     // The session with the finder's pair: 21, 24, 5, 6, 7.
     pub fn find(self) -> Step
         ensures { λ y. ⌜ y ≡ findOf self ⌝ }
     {
-        let x = self.counted();
-        let held = x.held;
-        step_with(self, x, held.find())
+        let held = self.held;
+        let valid = is_valid(held, self.ledger.count);
+        self.step_with(valid, held_if(valid, held).find())
     }
 
     // Any state to empty, with the records; it never refuses.
     pub fn clear(self) -> Step
         ensures { λ r. ⌜ r ≡ clearOf self ⌝ }
     {
-        let x = self.counted();
-        let held = Held::new();
-        Step {
+        let held = self.held;
+        let valid = is_valid(held, self.ledger.count);
+        let empty = Held::new();
+        let answer = HeldStep {
             number: 0,
-            session: x.with_held(held),
-        }
+            held: empty,
+        };
+        self.step_with(valid, answer)
     }
 }

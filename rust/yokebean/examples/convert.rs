@@ -1,4 +1,5 @@
-//! Finds the pair of two models of the field of 343 elements (document 01, example D), checks it and sends a table there and back.
+//! Finds the pair of two models of the field of 343 elements (document 01, example D), checks it, sends a table there and back and
+//! prints the report.
 
 use yokebean::{check, find, Refusal, Session, Size};
 
@@ -11,8 +12,11 @@ fn main() -> Result<(), Refusal> {
     let session = Session::new().load(size, &t1, &t2)?.find()?;
     let table = [1, 2, 3, 0, 1, 0];
     let (mut image, mut again) = ([0; 6], [0; 6]);
-    session.forward(&table, &mut image)?;
-    session.back(&image, &mut again)?;
+    let session = session.forward(&table, &mut image)?;
+    let session = session.back(&image, &mut again)?;
     println!("{table:?} -> {image:?} -> {again:?}");
+    let mut report = vec![0; session.report_length()];
+    session.report(&mut report)?;
+    print!("{}", String::from_utf8_lossy(&report));
     Ok(())
 }

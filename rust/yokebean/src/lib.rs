@@ -152,7 +152,42 @@ pub fn find(size: Size, t1: &[u16], t2: &[u16], s: &mut [u16], r: &mut [u16]) ->
     answer(number, ())
 }
 
-/// A session, by value: empty, loaded with two models, or paired as well. A refused call leaves the caller with the session it had.
+/// The direction of a conversion.
+///
+/// ```
+/// use yokebean::{Direction, Session, Size};
+///
+/// let paired = Session::new().load(Size { p: 3, n: 2 }, &[1, 0], &[2, 1])?.find()?;
+/// let next = paired.back(&[2, 2], &mut [0; 2])?;
+/// assert_eq!(next.records().last().map(|record| record.direction), Some(Direction::Back));
+/// # Ok::<(), yokebean::Refusal>(())
+/// ```
+#[derive(Clone, Copy, Debug, PartialEq, Eq)]
+pub enum Direction {
+    /// From residues modulo T1 to residues modulo T2.
+    Forward,
+    /// From residues modulo T2 to residues modulo T1.
+    Back,
+}
+
+/// A record of the ledger: a conversion that succeeded, and how many residues it had.
+///
+/// ```
+/// use yokebean::{Direction, Record, Session, Size};
+///
+/// let paired = Session::new().load(Size { p: 3, n: 2 }, &[1, 0], &[2, 1])?.find()?;
+/// let next = paired.forward(&[1, 1, 0, 2], &mut [0; 4])?;
+/// assert_eq!(next.records().last(), Some(Record { direction: Direction::Forward, residues: 2 }));
+/// # Ok::<(), yokebean::Refusal>(())
+/// ```
+#[derive(Clone, Copy, Debug, PartialEq, Eq)]
+pub struct Record {
+    pub direction: Direction,
+    pub residues: u32,
+}
+
+/// A session, by value: empty, loaded with two models, or paired as well; and a ledger of up to 512 records, one for each conversion that
+/// succeeded. A refused call leaves the caller with the session it had.
 #[derive(Clone, Copy, Debug, PartialEq, Eq)]
 pub struct Session(raw::Session);
 
@@ -163,7 +198,7 @@ impl Default for Session {
 }
 
 impl Session {
-    /// A new session is empty.
+    /// A new session is empty and has no records.
     ///
     /// ```
     /// assert_eq!(yokebean::Session::new().find(), Err(yokebean::Refusal::SessionEmpty));
@@ -216,45 +251,96 @@ impl Session {
         Self::next(unsafe { raw::yokebean_session_find(self.0) })
     }
 
-    /// Converts a table of residues modulo T1, group of n words by group, into residues modulo T2: u ↦ u(S). Refusals 21, 22, 9, 10, 4.
+    /// Converts a table of residues modulo T1, group of n words by group, into residues modulo T2: u ↦ u(S). The next session has one record more,
+    /// also for an empty table. Refusals 21, 22, 9, 10, 4, 25.
     ///
     /// ```
     /// use yokebean::{Session, Size};
     ///
     /// let paired = Session::new().load(Size { p: 3, n: 2 }, &[1, 0], &[2, 1])?.find()?;
     /// let mut image = [0; 2];
-    /// paired.forward(&[1, 1], &mut image)?;
+    /// let next = paired.forward(&[1, 1], &mut image)?;
     /// assert_eq!(image, [2, 2]);
+    /// assert_eq!(next.records().count(), 1);
     /// # Ok::<(), yokebean::Refusal>(())
     /// ```
-    pub fn forward(self, table: &[u16], out: &mut [u16]) -> Result<(), Refusal> {
-        let step = unsafe { raw::yokebean_session_forward(self.0, table.as_ptr(), table.len(), out.as_mut_ptr(), out.len()) };
-        answer(step.number, ())
+    pub fn forward(self, table: &[u16], out: &mut [u16]) -> Result<Self, Refusal> {
+        Self::next(unsafe { raw::yokebean_session_forward(self.0, table.as_ptr(), table.len(), out.as_mut_ptr(), out.len()) })
     }
 
-    /// Converts a table of residues modulo T2, group of n words by group, into residues modulo T1: u ↦ u(R). Refusals 21, 22, 9, 10, 4.
+    /// Converts a table of residues modulo T2, group of n words by group, into residues modulo T1: u ↦ u(R). The next session has one record more,
+    /// also for an empty table. Refusals 21, 22, 9, 10, 4, 25.
     ///
     /// ```
     /// use yokebean::{Session, Size};
     ///
     /// let paired = Session::new().load(Size { p: 3, n: 2 }, &[1, 0], &[2, 1])?.find()?;
     /// let mut image = [0; 2];
-    /// paired.back(&[2, 2], &mut image)?;
+    /// let next = paired.back(&[2, 2], &mut image)?;
     /// assert_eq!(image, [1, 1]);
+    /// assert_eq!(next.records().count(), 1);
     /// # Ok::<(), yokebean::Refusal>(())
     /// ```
-    pub fn back(self, table: &[u16], out: &mut [u16]) -> Result<(), Refusal> {
-        let step = unsafe { raw::yokebean_session_back(self.0, table.as_ptr(), table.len(), out.as_mut_ptr(), out.len()) };
+    pub fn back(self, table: &[u16], out: &mut [u16]) -> Result<Self, Refusal> {
+        Self::next(unsafe { raw::yokebean_session_back(self.0, table.as_ptr(), table.len(), out.as_mut_ptr(), out.len()) })
+    }
+
+    /// The records of the ledger, in order.
+    ///
+    /// ```
+    /// use yokebean::{Direction, Session, Size};
+    ///
+    /// let paired = Session::new().load(Size { p: 3, n: 2 }, &[1, 0], &[2, 1])?.find()?;
+    /// assert_eq!(paired.records().count(), 0);
+    /// let next = paired.forward(&[1, 1, 0, 2], &mut [0; 4])?.back(&[], &mut [])?;
+    /// let records: Vec<_> = next.records().map(|record| (record.direction, record.residues)).collect();
+    /// assert_eq!(records, [(Direction::Forward, 2), (Direction::Back, 0)]);
+    /// # Ok::<(), yokebean::Refusal>(())
+    /// ```
+    pub fn records(&self) -> impl Iterator<Item = Record> + '_ {
+        self.0.ledger.iter().take(self.0.records as usize).map(|record| Record {
+            direction: if record.direction == 0 { Direction::Forward } else { Direction::Back },
+            residues: record.residues,
+        })
+    }
+
+    /// The length of the report.
+    ///
+    /// ```
+    /// assert_eq!(yokebean::Session::new().report_length(), "0\n0\n".len());
+    /// ```
+    pub fn report_length(self) -> usize {
+        unsafe { raw::yokebean_session_report_length(self.0) }
+    }
+
+    /// The report, in every state: the records in order, each as `F` or `B`, a blank, the decimal number of residues and a newline; then the forward
+    /// and the back total, each a decimal number and a newline. `out` has [`report_length`](Self::report_length) bytes and receives ASCII text.
+    /// Refusal 3.
+    ///
+    /// ```
+    /// use yokebean::{Session, Size};
+    ///
+    /// let paired = Session::new().load(Size { p: 3, n: 2 }, &[1, 0], &[2, 1])?.find()?;
+    /// let next = paired.forward(&[1, 1, 0, 2], &mut [0; 4])?.back(&[2, 2], &mut [0; 2])?;
+    /// let mut out = vec![0; next.report_length()];
+    /// next.report(&mut out)?;
+    /// assert_eq!(out, b"F 2\nB 1\n2\n1\n");
+    /// # Ok::<(), yokebean::Refusal>(())
+    /// ```
+    pub fn report(self, out: &mut [u8]) -> Result<(), Refusal> {
+        let step = unsafe { raw::yokebean_session_report(self.0, out.as_mut_ptr(), out.len()) };
         answer(step.number, ())
     }
 
-    /// Any state to empty; never refused.
+    /// Any state to empty; keeps the ledger; never refused.
     ///
     /// ```
     /// use yokebean::{Session, Size};
     ///
     /// let loaded = Session::new().load(Size { p: 3, n: 2 }, &[1, 0], &[2, 1])?;
     /// assert_eq!(loaded.clear(), Session::new());
+    /// let next = loaded.find()?.forward(&[1, 1], &mut [0; 2])?;
+    /// assert!(next.clear().records().eq(next.records()));
     /// # Ok::<(), yokebean::Refusal>(())
     /// ```
     pub fn clear(self) -> Self {

@@ -4,7 +4,15 @@
 type Words = *const u16;
 type Lent = *mut u16;
 
-/// A session's value: state 0 is empty, 1 loaded, 2 paired; the first n words of each array count.
+/// A record of the ledger: direction 0 is forward, 1 back.
+#[repr(C)]
+#[derive(Clone, Copy, Debug, PartialEq, Eq)]
+pub struct Record {
+    pub direction: u32,
+    pub residues: u32,
+}
+
+/// A session's value: state 0 is empty, 1 loaded, 2 paired; the first n words of each array and the first `records` records of the ledger count.
 #[repr(C)]
 #[derive(Clone, Copy, Debug, PartialEq, Eq)]
 pub struct Session {
@@ -15,6 +23,8 @@ pub struct Session {
     pub t2: [u16; 16],
     pub s: [u16; 16],
     pub r: [u16; 16],
+    pub records: u32,
+    pub ledger: [Record; 512],
 }
 
 /// A session call's answer: the number and the next session; refused, the session that the call took.
@@ -52,6 +62,8 @@ extern "C" {
     pub fn yokebean_session_find(session: Session) -> Step;
     pub fn yokebean_session_forward(session: Session, table: Words, table_len: usize, out: Lent, out_len: usize) -> Step;
     pub fn yokebean_session_back(session: Session, table: Words, table_len: usize, out: Lent, out_len: usize) -> Step;
+    pub fn yokebean_session_report(session: Session, out: *mut u8, out_len: usize) -> Step;
+    pub fn yokebean_session_report_length(session: Session) -> usize;
     pub fn yokebean_session_clear(session: Session) -> Step;
 
     pub fn yokebean_card_read(bytes: *const u8, bytes_len: usize, words: Lent, words_len: usize) -> Card;

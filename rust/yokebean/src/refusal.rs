@@ -1,11 +1,11 @@
-//! Why a call was refused: document 01's numbers and their sentences, each said once.
+//! Why a call was refused: the documents' numbers and their sentences, each said once.
 
 use std::fmt;
 
 /// The enum, its numbers and its sentences, from one list.
 macro_rules! refusals {
     ($($number:literal $name:ident $sentence:literal)*) => {
-        /// Why a call was refused. Its `Display` is document 01's sentence.
+        /// Why a call was refused. Its `Display` is the documents' sentence.
         ///
         /// ```
         /// use yokebean::{check, Refusal, Size};
@@ -30,7 +30,7 @@ macro_rules! refusals {
                 }
             }
 
-            /// Document 01's number.
+            /// The documents' number.
             ///
             /// ```
             /// assert_eq!(yokebean::Refusal::Congruence.number(), 8);
@@ -57,7 +57,7 @@ macro_rules! refusals {
 refusals! {
     1 NotPrime "p is below 2, above 65,535 or not prime"
     2 Degree "n is not 1 to 16"
-    3 Length "a list of coefficients, read or written, or the output list of a card or sheet has the wrong length"
+    3 Length "a list of coefficients, read or written, or the output list of a card, sheet or report has the wrong length"
     4 Word "a coefficient is p or more"
     5 DegreeDoesNotDivide "n does not divide p − 1"
     6 FirstModulusFactors "T1 has a monic divisor of degree 1 to n − 1"
@@ -72,6 +72,7 @@ refusals! {
     22 SessionWithoutPair "the session is loaded without a pair, and the call is forward or back"
     23 SessionNotEmpty "the session is not empty, and the call is load"
     24 SessionPaired "the session is paired, and the call is propose or find"
+    25 LedgerFull "the ledger holds 512 records"
 }
 
 impl std::error::Error for Refusal {}

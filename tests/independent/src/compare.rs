@@ -23,7 +23,7 @@ impl Tally {
         *self.seen.entry((call, number)).or_default() += 1;
     }
 
-    /// Prints the counts. Every number of document 01 must have occurred.
+    /// Prints the counts. Every number of the documents must have occurred.
     pub fn report(&self) {
         let mut calls: BTreeMap<&str, String> = BTreeMap::new();
         for ((call, number), count) in &self.seen {
@@ -32,7 +32,7 @@ impl Tally {
         for (call, counts) in calls {
             println!("{call:<16}{counts}");
         }
-        for number in [0, 1, 2, 3, 4, 5, 6, 7, 8, 9, 10, 11, 12, 13, 21, 22, 23, 24] {
+        for number in [0, 1, 2, 3, 4, 5, 6, 7, 8, 9, 10, 11, 12, 13, 21, 22, 23, 24, 25] {
             assert!(self.seen.keys().any(|(_, seen)| *seen == number), "number {number} never occurred");
         }
         println!("{} calls agree with the independent implementation", self.seen.values().sum::<u64>());

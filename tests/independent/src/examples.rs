@@ -1,4 +1,4 @@
-//! Examples A to J of document 01, and the sheet of A, on the independent implementation itself.
+//! Examples A to J of document 01, and the report and the sheet of A, on the independent implementation itself.
 
 use crate::document::{self, card, finder, is_prime, session::Session, sheet};
 
@@ -7,9 +7,11 @@ pub fn hold() {
     assert_eq!((pair.zeta, &pair.alpha1[..], &pair.alpha2[..], pair.c), (2, &[0, 1][..], &[1, 2][..], 1));
     assert_eq!((&pair.s[..], &pair.r[..]), (&[1, 2][..], &[1, 2][..]));
     assert_eq!(document::check(3, 2, &[1, 0], &[2, 1], &[2, 1], &[1, 1]), 0);
-    let session = Session::Empty.load(3, 2, &[1, 0], &[2, 1]).unwrap().find().unwrap();
-    assert_eq!(session.convert(true, &[1, 1], 2), Ok(vec![2, 2]));
-    assert_eq!(session.convert(false, &[2, 2], 2), Ok(vec![1, 1]));
+    let session = Session::new().load(3, 2, &[1, 0], &[2, 1]).unwrap().find().unwrap();
+    let (image, session) = session.convert(true, &[1, 1], 2).unwrap();
+    let (again, session) = session.convert(false, &image, 2).unwrap();
+    assert_eq!((&image[..], &again[..]), (&[2, 2][..], &[1, 1][..]));
+    assert_eq!(session.report(&[0; 12]), (0, b"F 1\nB 1\n1\n1\n".to_vec()));
     let pair = finder::pair(7, &[5, 0, 0], &[4, 0, 0]);
     assert_eq!((pair.zeta, &pair.alpha1[..], &pair.alpha2[..], pair.a1, pair.a2, pair.c), (2, &[0, 0, 1][..], &[0, 1, 0][..], 4, 3, 3));
     assert_eq!((&pair.s[..], &pair.r[..]), (&[0, 0, 1][..], &[0, 0, 5][..]));

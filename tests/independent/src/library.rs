@@ -1,6 +1,6 @@
 //! The proved library as the tests see it: numbers for answers, and session calls with the session that is given back.
 
-pub use yokebean::raw::{Session, Step};
+pub use yokebean::raw::{Record, Session, Step};
 use yokebean::{raw, Refusal};
 
 /// The number of an answer: 0 where it is accepted.
@@ -27,6 +27,14 @@ pub fn find(session: Session) -> Step {
 pub fn convert(session: Session, forward: bool, table: &[u16], out: &mut [u16]) -> Step {
     let call = if forward { raw::yokebean_session_forward } else { raw::yokebean_session_back };
     unsafe { call(session, table.as_ptr(), table.len(), out.as_mut_ptr(), out.len()) }
+}
+
+pub fn report(session: Session, out: &mut [u8]) -> Step {
+    unsafe { raw::yokebean_session_report(session, out.as_mut_ptr(), out.len()) }
+}
+
+pub fn report_length(session: Session) -> usize {
+    unsafe { raw::yokebean_session_report_length(session) }
 }
 
 pub fn clear(session: Session) -> Step {

@@ -1,17 +1,35 @@
--- T1 and R are a map of what is held.
+-- The conversion by what the session counts as holding, and its record.
 use borrow.Author.Needs.{needs}
-use Rattle.session.proofs.Conversion.{held-maps}
+use Rattle.session.proofs.CountsAs.{held-valid}
+use Rattle.session.proofs.Conversion.{recordable, convert-answers, back-writes}
 use Rattle.session.proofs.Session.back.Statement.{statement}
 use Rattle.session.proofs.Session.back.Tie as tie
 
-convert-requires : tie.Need-convert-requires
-convert-requires c κs = search held-maps
+is-valid-requires : tie.Need-is-valid-requires
+is-valid-requires c κs = search needs
+
+held-if-requires : tie.Need-held-if-requires
+held-if-requires c κs = search needs
+
+back-by-requires : tie.Need-back-by-requires
+back-by-requires c κs = search held-valid
+
+answered-requires : tie.Need-answered-requires
+answered-requires c κs = search recordable
 
 same-length : tie.Need-same-length
 same-length c = search needs
 
 returns : tie.Need-returns
-returns c = search needs
+returns c = (search convert-answers, search back-writes)
 
 pub back-spec : {M : Type 1} → statement M
-back-spec = tie.close (tie.spec convert-requires same-length returns)
+back-spec =
+    tie.close
+    (tie.spec
+    is-valid-requires
+    held-if-requires
+    back-by-requires
+    answered-requires
+    same-length
+    returns)

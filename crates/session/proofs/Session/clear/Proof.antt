@@ -1,19 +1,20 @@
--- The session holds a new value.
+-- The answer is that of what is held.
 use borrow.Author.Needs.{needs}
+use Rattle.session.proofs.Answer.{clear-answers}
 use Rattle.session.proofs.Session.clear.Statement.{statement}
 use Rattle.session.proofs.Session.clear.Tie as tie
 
-counted-requires : tie.Need-counted-requires
-counted-requires c κs = search needs
+is-valid-requires : tie.Need-is-valid-requires
+is-valid-requires c κs = search needs
 
 new-requires : tie.Need-new-requires
 new-requires c κs = search needs
 
-with-held-requires : tie.Need-with-held-requires
-with-held-requires c κs = search needs
+step-with-requires : tie.Need-step-with-requires
+step-with-requires c κs = search needs
 
 returns : tie.Need-returns
-returns c = cc
+returns c = search clear-answers
 
 pub clear-spec : {M : Type 1} → statement M
-clear-spec = tie.close (tie.spec counted-requires new-requires with-held-requires returns)
+clear-spec = tie.close (tie.spec is-valid-requires new-requires step-with-requires returns)

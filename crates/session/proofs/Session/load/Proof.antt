@@ -1,10 +1,14 @@
 -- The answer is that of what is held.
 use borrow.Author.Needs.{needs}
+use Rattle.session.proofs.Answer.{load-answers}
 use Rattle.session.proofs.Session.load.Statement.{statement}
 use Rattle.session.proofs.Session.load.Tie as tie
 
-counted-requires : tie.Need-counted-requires
-counted-requires c κs = search needs
+is-valid-requires : tie.Need-is-valid-requires
+is-valid-requires c κs = search needs
+
+held-if-requires : tie.Need-held-if-requires
+held-if-requires c κs = search needs
 
 load-requires : tie.Need-load-requires
 load-requires c κs = search needs
@@ -13,7 +17,9 @@ step-with-requires : tie.Need-step-with-requires
 step-with-requires c κs = search needs
 
 returns : tie.Need-returns
-returns c = cc
+returns c = search load-answers
 
 pub load-spec : {M : Type 1} → statement M
-load-spec = tie.close (tie.spec counted-requires load-requires step-with-requires returns)
+load-spec =
+    tie.close
+    (tie.spec is-valid-requires held-if-requires load-requires step-with-requires returns)

@@ -1,14 +1,8 @@
--- By whether the session is valid, its state, the table and the number of records.
+-- By the state of what is held, the table and the number of records.
 use borrow.Author.Needs.{needs}
-use Rattle.session.proofs.Conversion.{convert-new, convert-empty, convert-loaded, paired-positive, convert-refused, convert-full, convert-accepted}
+use Rattle.session.proofs.Conversion.{convert-empty, convert-loaded, paired-positive, convert-refused, convert-full, convert-accepted}
 use Rattle.session.proofs.convert.convert_number.Statement.{statement}
 use Rattle.session.proofs.convert.convert_number.Tie as tie
-
-is-valid-requires : tie.Need-is-valid-requires
-is-valid-requires c κs = search needs
-
-returns : tie.Need-returns
-returns c = search convert-new
 
 enum-told : tie.Need-enum-told
 enum-told c = search needs
@@ -25,38 +19,36 @@ cast-table-number c = search needs
 table-number-requires : tie.Need-table-number-requires
 table-number-requires c κs = search paired-positive
 
-returns-2 : tie.Need-returns-2
-returns-2 c = search convert-refused
+returns : tie.Need-returns
+returns c = search convert-refused
 
-cast-if3 : tie.Need-cast-if3
-cast-if3 c = search needs
+cast-if2 : tie.Need-cast-if2
+cast-if2 c = search needs
+
+returns-2 : tie.Need-returns-2
+returns-2 c = search convert-empty
 
 returns-3 : tie.Need-returns-3
-returns-3 c = search convert-empty
+returns-3 c = search convert-loaded
 
 returns-4 : tie.Need-returns-4
-returns-4 c = search convert-loaded
+returns-4 c = search convert-full
 
 returns-5 : tie.Need-returns-5
-returns-5 c = search convert-full
-
-returns-6 : tie.Need-returns-6
-returns-6 c = search convert-accepted
+returns-5 c = search convert-accepted
 
 pub convert-number-spec : {M : Type 1} → statement M
 convert-number-spec =
     tie.close
     (tie.spec
-    is-valid-requires
-    returns
     enum-told
     enum-told-2
     enum-told-3
     cast-table-number
     table-number-requires
+    returns
+    cast-if2
     returns-2
-    cast-if3
     returns-3
     returns-4
-    returns-5
-    returns-6)
+    returns-5)

@@ -1,8 +1,8 @@
 -- By the number of records, and by what is held.
 use borrow.Author.Needs.{needs}
 use Rattle.session.proofs.CountsAs.{past-limit, within-limit}
-use Rattle.session.proofs.Session.is_valid.Statement.{statement}
-use Rattle.session.proofs.Session.is_valid.Tie as tie
+use Rattle.session.proofs.counted.is_valid.Statement.{statement}
+use Rattle.session.proofs.counted.is_valid.Tie as tie
 
 cast-if1 : tie.Need-cast-if1
 cast-if1 c = search needs
