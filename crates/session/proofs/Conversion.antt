@@ -4,12 +4,15 @@ use mathlib.Core.Path.{_≡_, refl, sym, ap, _∙_}
 use mathlib.Core.Bool.{Bool, true, false}
 use mathlib.Core.List.{List, [], _∷_}
 use Prim.Native.Nat.{ℕ, zero, suc, _/_, _≤_, _<_}
+use native.Mathlib.Nat as Nat
 use native.Mathlib.Omega.{arith}
 use borrow.Author.Tests.{eq-eqb, ne-eqb, eqb-false}
 use lib.Dec.{eqb}
 use lib.ListN.{length}
+use mir.Syntax.{w32}
+use mir.Val.{Fits}
 use Rattle.refusal.specs.Refusal.{refuse, written}
-use Rattle.held.specs.Held.{View, empty, loaded, paired, view, viewAs, valid, validAs, validHeld, t1Of, t2Of, sOf, rOf}
+use Rattle.held.specs.Held.{View, empty, loaded, paired, view, viewAs, valid, validAs, validHeld, newHeld, t1Of, t2Of, sOf, rOf}
 use Rattle.held.specs.ViewState.{viewState}
 use Rattle.held.specs.declared.Held.{Held}
 use Rattle.held.specs.declared.State.the-variants.{Empty, Loaded, Paired}
@@ -17,14 +20,14 @@ use Rattle.held.proofs.Contents.{empty-view, loaded-view, paired-view, paired-v
 use Rattle.held.proofs.Valid.{valid-size, maps-valid}
 use Rattle.ledger.specs.Ledger.{mostRecords}
 use Rattle.ledger.specs.declared.Direction.{Direction}
-use Rattle.table.specs.Table.{mostWords, converted, tableNumber}
+use Rattle.table.specs.Table.{converted, tableNumber}
 use Rattle.table.proofs.Convertible as Convertible
-use Rattle.session.specs.MapOf.{MapOf, Recordable}
-use Rattle.session.specs.Session.{newSession, validSession, counted, heldIf, answer, orElse, convertFrom, convertNumber, outputBy, recorded, convert, forwardOutput, backOutput}
+use Rattle.session.specs.Inner.{MapOf, Room, convertedFrom, outputFrom}
+use Rattle.session.specs.Session.{newSession, validSession, counted, answer, orElse, whereZero, convertFrom, convertNumber, outputBy, recorded, convert, forwardOutput, backOutput}
 use Rattle.session.specs.declared.Session.{Session}
+use Rattle.session.specs.declared.convert.Converted.{Converted}
 use Rattle.session.specs.declared.Step.{Step}
-use Rattle.session.proofs.Answer.{answer-accepted}
-use Rattle.session.proofs.CountsAs.{counts-itself, counts-new, valid-parts}
+use Rattle.session.proofs.CountsAs.{counts-itself, counts-new, valid-parts, Counts, as-itself, as-new}
 
 -- the number of a conversion, by what the session counts as
 module _ (x : Session) (table out : List ℕ) where
@@ -32,9 +35,30 @@ module _ (x : Session) (table out : List ℕ) where
   unfolding convertNumber
   number-valid h = ap (λ y. convertFrom (view (y .held)) (y .ledger .count) table out) (sym (counts-itself x (validSession x) refl h))
 
-  number-new : validSession x ≡ false → convertNumber x table out ≡ 21
+  number-as-new : counted x ≡ newSession → convertNumber x table out ≡ 21
   unfolding convertNumber convertFrom view validHeld validAs viewAs
-  number-new h = ap (λ y. convertFrom (view (y .held)) (y .ledger .count) table out) (sym (counts-new x (validSession x) refl h newSession refl))
+  number-as-new h = ap (λ y. convertFrom (view (y .held)) (y .ledger .count) table out) h
+
+  number-new : validSession x ≡ false → convertNumber x table out ≡ 21
+  number-new h = number-as-new (sym (counts-new x (validSession x) refl h newSession refl))
+
+-- a new value converts nothing
+number-empty : (k : ℕ) (table out : List ℕ) → convertFrom (view newHeld) k table out ≡ 21
+unfolding convertFrom view validHeld validAs viewAs
+number-empty k table out = refl
+
+same-answer : (k r : ℕ) (d : Direction) (x : Session) → answer k (recorded x d (whereZero k r)) x ≡ answer k (recorded x d r) x
+unfolding answer
+same-answer zero r d x = refl
+same-answer (suc k) r d x = refl
+
+other-answer : (k j : ℕ) → k ≡ suc j → (y z x : Session) → answer k y x ≡ answer k z x
+unfolding answer
+other-answer k j e y z x = rw e
+
+none-refused : (j r : ℕ) → (j ≡ 0 → ⊥) → 0 ≡ whereZero j r
+none-refused zero r h = absurd (h refl)
+none-refused (suc j) r h = refl
 
 first-is : (k rest : ℕ) → (k ≡ 0 → ⊥) → k ≡ orElse k rest
 first-is zero rest z = absurd (z refl)
@@ -68,21 +92,6 @@ module _ (x : Held) (v : validHeld x ≡ true) (k : ℕ) (table out : List ℕ) 
       pub convert-accepted : j ≡ 0 → (k ≡ mostRecords → ⊥) → 0 ≡ convertFrom (view x) k table out
       convert-accepted z room = rw (number-paired, ← g, z, ne-eqb k mostRecords room)
 
--- a conversion that can be recorded
-module _ (n k number words : ℕ) (h : Recordable n k number words) (z : number ≡ 0) where
-  pub degree-given : 0 < n
-  degree-given = h .positive z
-
-  pub words-given : words ≤ mostWords
-  words-given = h .fits z
-
-  pub room-given : k < mostRecords
-  room-given = h .room z
-
-pub answer-recorded : (number words r : ℕ) (d : Direction) (x y : Session) → number ≡ 0 → r ≡ words / x .held .n → y ≡ recorded x d r
-    → record { number = 0; session = y } ≡ answer number (recorded x d (words / x .held .n)) x
-answer-recorded number words r d x y z e f = answer-accepted number _ x z y (f ∙ ap (recorded x d) e)
-
 -- what a number 0 says of a value and k records
 module _ (x : Held) (k : ℕ) (table out : List ℕ) where
   module _ (h : convertFrom (view x) k table out ≡ 0) where
@@ -107,7 +116,24 @@ module _ (x : Held) (k : ℕ) (table out : List ℕ) where
     zero-positive : 0 < x .n
     zero-positive = omega (arith, valid-size (x .p) (x .n) _ (paired-valid x Paired (sym zero-paired) refl) .2)
 
+  module _ (j : ℕ) (e : j ≡ convertFrom (view x) k table out) where
+    pub convert-refuses : (j ≡ 0 → ⊥) → record { number = j; residues = 0 } ≡ convertedFrom x k table out
+    unfolding convertedFrom
+    convert-refuses h = rw (← e, ← none-refused j (length table / x .n) h)
+
   module _ (j : ℕ) (e : j ≡ convertFrom (view x) k table out) (h : j ≡ 0) where
+    pub degree-positive : 0 < x .n
+    degree-positive = zero-positive (sym e ∙ h)
+
+    -- a table of up to 32,768 words has as many residues at most
+    pub residues-fit : Fits w32 (length table / x .n)
+    residues-fit =
+        record { fits = omega (arith, Nat.div-le-self (length table) (x .n), Convertible.table-given (x .p) (x .n) table out (zero-parts (sym e ∙ h) .0) .few) }
+
+    pub convert-converts : record { number = 0; residues = length table / x .n } ≡ convertedFrom x k table out
+    unfolding convertedFrom
+    convert-converts = rw (sym e ∙ h)
+
     pub map-valid : (t s : List ℕ) → MapOf x t s → valid (x .p) (x .n) (t ∷ s ∷ []) ≡ true
     map-valid t s m = m .is-valid (zero-paired (sym e ∙ h))
 
@@ -153,53 +179,54 @@ module _ (x : Session) (table out : List ℕ) where
       ∙ rw (paired-view (x .held) Paired (sym e) refl, t, ne-eqb (x .ledger .count) mostRecords (λ full. omega (arith, room, full)))
 
 -- the same by what the session counts as holding
-module _ (x : Session) (b : Bool) (e : b ≡ validSession x) (z : Held) (f : z ≡ heldIf b (x .held)) (table out : List ℕ) where
-  number-is : convertFrom (view z) (x .ledger .count) table out ≡ convertNumber x table out
-  number-is = ap (λ w. convertFrom (view w) (x .ledger .count) table out) f ∙ go b e
+module _ {x : Session} {z : Held} {k : ℕ} (c : Counts x z k) (table out : List ℕ) where
+  number-is : convertFrom (view z) k table out ≡ convertNumber x table out
+  number-is = go c
     where
-      go : (b : Bool) → b ≡ validSession x → convertFrom (view (heldIf b (x .held))) (x .ledger .count) table out ≡ convertNumber x table out
-      go true e = sym (number-valid x table out (sym e))
-      go false e = unfold convertFrom view validHeld validAs viewAs in sym (number-new x table out (sym e))
+      go : {z : Held} {k : ℕ} → Counts x z k → convertFrom (view z) k table out ≡ convertNumber x table out
+      go (as-itself h) = sym (number-valid x table out h)
+      go {k = k} (as-new h) = number-empty k table out ∙ sym (number-as-new x table out h)
 
-  module _ (k : ℕ) (g : k ≡ convertFrom (view z) (x .ledger .count) table out) where
-    own-number : k ≡ convertNumber x table out
-    own-number = g ∙ number-is
+  own-number : (y : Converted) → y ≡ convertedFrom z k table out → y .number ≡ convertNumber x table out
+  unfolding convertedFrom
+  own-number y f = ap (λ w. w .number) f ∙ number-is
 
-    pub recordable : Recordable (x .held .n) (x .ledger .count) k (length table)
-    recordable =
-        record {
-          positive = λ h. zero-positive (x .held) (x .ledger .count) table out (own-zero x table out (sym own-number ∙ h));
-          fits = λ h. Convertible.table-given (x .held .p) (x .held .n) table out (table-accepted x table out (sym own-number ∙ h)) .few;
-          room = λ h. has-room x table out (sym own-number ∙ h);
-        }
+  pub room-left : (y : Converted) → y ≡ convertedFrom z k table out → Room (y .number) (x .ledger .count)
+  room-left y f = record { free = λ h. has-room x table out (sym (own-number y f) ∙ h) }
 
-    pub convert-answers : (d : Direction) (r : Step) → r ≡ answer k (recorded x d (length table / x .held .n)) x → r ≡ convert d x table out
-    unfolding convert
-    convert-answers d r h = h ∙ ap (λ j. answer j (recorded x d (length table / x .held .n)) x) own-number
+  pub converts : (d : Direction) (y : Converted) → y ≡ convertedFrom z k table out → (r : Step) → r ≡ answer (y .number) (recorded x d (y .residues)) x
+      → r ≡ convert d x table out
+  unfolding convert convertedFrom
+  converts d y f r g =
+      g
+      ∙ ap (λ w. answer (w .number) (recorded x d (w .residues)) x) f
+      ∙ ap (λ j. answer j (recorded x d (whereZero j (length table / z .n))) x) number-is
+      ∙ go c
+    where
+      go : {z : Held} {k : ℕ} → Counts x z k → answer (convertNumber x table out) (recorded x d (whereZero (convertNumber x table out) (length table / z .n))) x
+          ≡ answer (convertNumber x table out) (recorded x d (length table / x .held .n)) x
+      go (as-itself h) = same-answer (convertNumber x table out) (length table / x .held .n) d x
+      go (as-new h) = other-answer (convertNumber x table out) 20 (number-as-new x table out h) _ _ x
 
   -- what is written, by T and S of what is held
-  output-is : (t s : Held → List ℕ) → written (convertFrom (view z) (x .ledger .count) table out) (converted (z .p) (z .n) (t z) (s z) table) out
-      ≡ outputBy x (t (x .held)) (s (x .held)) table out
-  unfolding outputBy
-  output-is t s =
-      ap (λ j. written j (converted (z .p) (z .n) (t z) (s z) table) out) number-is
-      ∙ ap (λ w. written (convertNumber x table out) (converted (w .p) (w .n) (t w) (s w) table) out) f
-      ∙ go b e
+  output-is : (t s : Held → List ℕ) → outputFrom z k (t z) (s z) table out ≡ outputBy x (t (x .held)) (s (x .held)) table out
+  unfolding outputFrom outputBy
+  output-is t s = ap (λ j. written j (converted (z .p) (z .n) (t z) (s z) table) out) number-is ∙ go c
     where
-      go : (b : Bool) → b ≡ validSession x
-          → written (convertNumber x table out) (converted (heldIf b (x .held) .p) (heldIf b (x .held) .n) (t (heldIf b (x .held))) (s (heldIf b (x .held))) table) out
+      go : {z : Held} {k : ℕ} → Counts x z k → written (convertNumber x table out) (converted (z .p) (z .n) (t z) (s z) table) out
           ≡ written (convertNumber x table out) (converted (x .held .p) (x .held .n) (t (x .held)) (s (x .held)) table) out
-      go true e = refl
-      go false e = rw (number-new x table out (sym e))
+      go (as-itself h) = refl
+      go (as-new h) = rw (number-as-new x table out h)
 
   module _ (after : List ℕ) where
-    pub forward-writes : after ≡ written (convertFrom (view z) (x .ledger .count) table out) (converted (z .p) (z .n) (t2Of z) (sOf z) table) out
-        → after ≡ forwardOutput x table out
+    pub forward-writes : after ≡ outputFrom z k (t2Of z) (sOf z) table out → after ≡ forwardOutput x table out
     forward-writes h = h ∙ output-is t2Of sOf
 
-    pub back-writes : after ≡ written (convertFrom (view z) (x .ledger .count) table out) (converted (z .p) (z .n) (t1Of z) (rOf z) table) out
-        → after ≡ backOutput x table out
+    pub back-writes : after ≡ outputFrom z k (t1Of z) (rOf z) table out → after ≡ backOutput x table out
     back-writes h = h ∙ output-is t1Of rOf
+
+pub room-free : (number k : ℕ) → Room number k → number ≡ 0 → k < mostRecords
+room-free number k h z = h .free z
 
 -- the two maps
 module _ (x : Held) where

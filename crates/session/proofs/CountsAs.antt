@@ -1,6 +1,7 @@
 -- What a session counts as: itself where it is valid, else a new one.
-use mathlib.Core.Path.{_≡_, refl, sym, ap, _∙_}
-use mathlib.Core.Bool.{Bool, true, false, _&&_, not, and-eq-true-iff}
+--   Counts x z k    z is what x counts as holding, and, where x counts as itself, k records of it count
+use mathlib.Core.Path.{_≡_, refl, sym, subst}
+use mathlib.Core.Bool.{Bool, true, false, and-eq-true-iff}
 use Prim.Native.Nat.{ℕ, _≤_, _<_}
 use native.Mathlib.Omega.{arith}
 use lib.Dec.{leb}
@@ -26,13 +27,6 @@ module _ (h : Held) (k : ℕ) where
       let (few, held) = and-eq-true-iff (leb k mostRecords) (validHeld h) .0 e in
       (leb-true k mostRecords few, held)
 
-  pub held-valid : (b : Bool) → b ≡ validWith h k → (z : Held) → z ≡ heldIf b h → validHeld z ≡ true
-  held-valid b e z f = rw f (go b e)
-    where
-      go : (b : Bool) → b ≡ validWith h k → validHeld (heldIf b h) ≡ true
-      go true e = valid-parts (sym e) .1
-      go false e = unfold validHeld validAs in refl
-
 module _ (x : Session) where
   pub counts-itself : (b : Bool) → b ≡ validSession x → b ≡ true → x ≡ counted x
   unfolding counted
@@ -57,3 +51,21 @@ module _ (x : Session) where
       go : (b : Bool) → heldIf b (x .held) ≡ orNew b x .held
       go true = refl
       go false = refl
+
+pub data Counts (x : Session) : Held → ℕ → Type 0 where
+  as-itself : validSession x ≡ true → Counts x (x .held) (x .ledger .count)
+  as-new : {k : ℕ} → counted x ≡ newSession → Counts x newHeld k
+
+pub counts : (x : Session) (b : Bool) → b ≡ validSession x → (z : Held) → z ≡ heldIf b (x .held) → Counts x z (x .ledger .count)
+counts x b e z f = subst (λ w. Counts x w (x .ledger .count)) (sym f) (go b e)
+  where
+    go : (b : Bool) → b ≡ validSession x → Counts x (heldIf b (x .held)) (x .ledger .count)
+    go true e = as-itself (sym e)
+    go false e = as-new (sym (counts-new x (validSession x) refl (sym e) newSession refl))
+
+pub held-valid : {x : Session} {z : Held} {k : ℕ} → Counts x z k → validHeld z ≡ true
+held-valid {x} (as-itself h) = valid-parts (x .held) (x .ledger .count) h .1
+held-valid (as-new h) = unfold validHeld validAs in refl
+
+pub held-if-valid : (x : Session) (b : Bool) → b ≡ validSession x → (z : Held) → z ≡ heldIf b (x .held) → validHeld z ≡ true
+held-if-valid x b e z f = held-valid (counts x b e z f)

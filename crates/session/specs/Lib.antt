@@ -1,4 +1,4 @@
 -- The session: each call's answer, and what is proved of every list of calls.
 pub mod Session
-pub mod MapOf
+pub mod Inner
 pub mod Theorem

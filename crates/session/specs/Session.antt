@@ -12,6 +12,7 @@
 --   propose x s r               propose S, R: loaded to paired if the checker accepts; 21, 24, 3, 4, 8
 --   find x                      find: loaded to paired with the finder's pair; 21, 24, 5, 6, 7
 --   orElse k rest               the number k, or what comes after it where k is 0
+--   whereZero j k               k where the number j is 0, else 0
 --   convertFrom v k table out   the number of a conversion, by what is held and the number of records: 21, 22, 9, 10, 4, 25
 --   convertNumber x table out   that of x
 --   outputBy x t s table out    what the list lent to a conversion by the map u ↦ u(S) modulo T then holds: the table converted, or what it held
@@ -83,6 +84,10 @@ find x = stepWith x (Held.find (counted x .held))
 abbrev pub orElse : ℕ → ℕ → ℕ
 orElse zero rest = rest
 orElse (suc k) rest = suc k
+
+abbrev pub whereZero : ℕ → ℕ → ℕ
+whereZero zero k = k
+whereZero (suc j) k = 0
 
 unfoldable pub convertFrom : View → ℕ → List ℕ → List ℕ → ℕ
 convertFrom empty k table out = 21

@@ -29,7 +29,7 @@ use Rattle.ledger.specs.declared.Direction.{Direction}
 use Rattle.ledger.specs.declared.Direction.the-variants.{Forward, Back}
 use Rattle.ledger.specs.declared.Ledger.{Ledger}
 use Rattle.table.specs.Table.{Images}
-use Rattle.session.specs.Session.{newSession, load, propose, find, convert, forwardOutput, backOutput, report, reportText, reportOutput, clear}
+use Rattle.session.specs.Session.{newSession, load, propose, find, whereZero, convert, forwardOutput, backOutput, report, reportText, reportOutput, clear}
 use Rattle.session.specs.declared.Session.{Session}
 
 pub data Call : Type 0 where
@@ -100,10 +100,6 @@ pub record KeepsLedger (x : Session) : Type 0 where
 
 abbrev pub OthersKeepLedger : Type 0
 OthersKeepLedger = (cs : List Call) → KeepsLedger (run newSession cs)
-
-abbrev pub whereZero : ℕ → ℕ → ℕ
-whereZero zero k = k
-whereZero (suc j) k = 0
 
 unfoldable pub convertedBy : Direction → Session → Call → ℕ
 convertedBy d x (callLoad p n t1 t2) = 0

@@ -15,15 +15,20 @@ use table::number::table_number;
 ghost use mathlib.Core.Bool.{true};
 ghost use mathlib.Core.List.{[], _∷_};
 ghost use mathlib.Core.Path.{_≡_};
-ghost use Prim.Native.Nat.{_/_, _≤_, _<_};
+ghost use Prim.Native.Nat.{_<_};
 ghost use lib.ListN.{take};
-ghost use Rattle.refusal.specs.Refusal.{written};
 ghost use Rattle.held.specs.Held.{view, valid, validHeld, t1Of, t2Of, sOf, rOf};
 ghost use Rattle.ledger.specs.Ledger.{mostRecords};
 ghost use Rattle.ledger.specs.declared.Direction.the-variants.{Forward, Back};
-ghost use Rattle.table.specs.Table.{mostWords, converted, tableNumber};
+ghost use Rattle.table.specs.Table.{converted, tableNumber};
 ghost use Rattle.session.specs.Session.{answer, convertFrom, recorded, convert as convertOf, forwardOutput, backOutput};
-ghost use Rattle.session.specs.MapOf.{MapOf, Recordable};
+ghost use Rattle.session.specs.Inner.{MapOf, Room, convertedFrom, outputFrom};
+
+// A conversion's answer: its number, and how many residues it had; refused, 0.
+pub struct Converted {
+    pub number: u32,
+    pub residues: u32,
+}
 
 // The number of a conversion by what is held, where `count` records count.
 fn convert_number(held: Held, count: u32, table: &[Word], out: &[Word]) -> u32
@@ -60,7 +65,7 @@ fn convert_words(
     convert_table(p, n, front(&t, n), front(&s, n), table, out);
 }
 
-// The number of a conversion by a map of what is held: where it is 0 the output is written.
+// A conversion by a map of what is held: where the number is 0 the output is written.
 fn convert_by(
     held: Held,
     count: u32,
@@ -68,24 +73,32 @@ fn convert_by(
     s: [Word; Session::DEGREE],
     table: &[Word],
     out: &mut [Word],
-) -> u32
+) -> Converted
     requires { ⌜ validHeld held ≡ true ⌝ }
     requires { ⌜ MapOf held (take (held .n) t) (take (held .n) s) ⌝ }
-    ensures { λ r. ⌜ r ≡ convertFrom (view held) count (now (table .entry)) (now (out .entry)) ⌝ }
-    ensures { λ _. ⌜ now (out .exit) ≡ written (convertFrom (view held) count (now (table .entry)) (now (out .entry))) (converted (held .p) (held .n) (take (held .n) t) (take (held .n) s) (now (table .entry))) (now (out .entry)) ⌝ }
+    ensures { λ r. ⌜ r ≡ convertedFrom held count (now (table .entry)) (now (out .entry)) ⌝ }
+    ensures { λ _. ⌜ now (out .exit) ≡ outputFrom held count (take (held .n) t) (take (held .n) s) (now (table .entry)) (now (out .entry)) ⌝ }
 {
     let number = convert_number(held, count, table, out);
-    if number == 0 {
-        convert_words(held.p, held.n, t, s, table, out);
+    if number != 0 {
+        return Converted {
+            number: number,
+            residues: 0,
+        };
     }
-    number
+    convert_words(held.p, held.n, t, s, table, out);
+    let residues = table.len() / held.n as usize;
+    Converted {
+        number: 0,
+        residues: residues as u32,
+    }
 }
 
 // Each group of n words of the table becomes its image under u ↦ u(S) modulo T2: 21, 22, 9, 10, 4, 25.
-pub fn forward_by(held: Held, count: u32, table: &[Word], out: &mut [Word]) -> u32
+pub fn forward_by(held: Held, count: u32, table: &[Word], out: &mut [Word]) -> Converted
     requires { ⌜ validHeld held ≡ true ⌝ }
-    ensures { λ r. ⌜ r ≡ convertFrom (view held) count (now (table .entry)) (now (out .entry)) ⌝ }
-    ensures { λ _. ⌜ now (out .exit) ≡ written (convertFrom (view held) count (now (table .entry)) (now (out .entry))) (converted (held .p) (held .n) (t2Of held) (sOf held) (now (table .entry))) (now (out .entry)) ⌝ }
+    ensures { λ r. ⌜ r ≡ convertedFrom held count (now (table .entry)) (now (out .entry)) ⌝ }
+    ensures { λ _. ⌜ now (out .exit) ≡ outputFrom held count (t2Of held) (sOf held) (now (table .entry)) (now (out .entry)) ⌝ }
 {
     let t = held.t2;
     let s = held.s;
@@ -93,23 +106,14 @@ pub fn forward_by(held: Held, count: u32, table: &[Word], out: &mut [Word]) -> u
 }
 
 // The same under u ↦ u(R) modulo T1.
-pub fn back_by(held: Held, count: u32, table: &[Word], out: &mut [Word]) -> u32
+pub fn back_by(held: Held, count: u32, table: &[Word], out: &mut [Word]) -> Converted
     requires { ⌜ validHeld held ≡ true ⌝ }
-    ensures { λ r. ⌜ r ≡ convertFrom (view held) count (now (table .entry)) (now (out .entry)) ⌝ }
-    ensures { λ _. ⌜ now (out .exit) ≡ written (convertFrom (view held) count (now (table .entry)) (now (out .entry))) (converted (held .p) (held .n) (t1Of held) (rOf held) (now (table .entry))) (now (out .entry)) ⌝ }
+    ensures { λ r. ⌜ r ≡ convertedFrom held count (now (table .entry)) (now (out .entry)) ⌝ }
+    ensures { λ _. ⌜ now (out .exit) ≡ outputFrom held count (t1Of held) (rOf held) (now (table .entry)) (now (out .entry)) ⌝ }
 {
     let t = held.t1;
     let r = held.r;
     convert_by(held, count, t, r, table, out)
-}
-
-// How many residues of n words a table has.
-pub fn residues_of(n: u32, words: usize) -> u32
-    requires { ⌜ (0 < n) × (words ≤ mostWords) ⌝ }
-    ensures { λ r. ⌜ r ≡ words / n ⌝ }
-{
-    let residues = words / n as usize;
-    residues as u32
 }
 
 impl Session {
@@ -127,22 +131,20 @@ impl Session {
         self
     }
 
-    // The answer of a conversion with this number, of so many words: where the number is 0 the conversion is recorded.
-    fn answered(self, direction: Direction, number: u32, words: usize) -> Step
-        requires { ⌜ Recordable (self .held .n) (self .ledger .count) number words ⌝ }
-        ensures { λ r. ⌜ r ≡ answer number (recorded self direction (words / self .held .n)) self ⌝ }
+    // The answer of a conversion: where its number is 0 it is recorded.
+    fn answered(self, direction: Direction, y: Converted) -> Step
+        requires { ⌜ Room (y .number) (self .ledger .count) ⌝ }
+        ensures { λ r. ⌜ r ≡ answer (y .number) (recorded self direction (y .residues)) self ⌝ }
     {
-        if number != 0 {
+        if y.number != 0 {
             return Step {
-                number: number,
+                number: y.number,
                 session: self,
             };
         }
-        let held = self.held;
-        let residues = residues_of(held.n, words);
         Step {
             number: 0,
-            session: self.recorded(direction, residues),
+            session: self.recorded(direction, y.residues),
         }
     }
 
@@ -153,8 +155,8 @@ impl Session {
     {
         let held = self.held;
         let count = self.ledger.count;
-        let number = forward_by(held_if(is_valid(held, count), held), count, table, out);
-        self.answered(Direction::Forward, number, table.len())
+        let x = held_if(is_valid(held, count), held);
+        self.answered(Direction::Forward, forward_by(x, count, table, out))
     }
 
     // The same under u ↦ u(R) modulo T1.
@@ -164,7 +166,7 @@ impl Session {
     {
         let held = self.held;
         let count = self.ledger.count;
-        let number = back_by(held_if(is_valid(held, count), held), count, table, out);
-        self.answered(Direction::Back, number, table.len())
+        let x = held_if(is_valid(held, count), held);
+        self.answered(Direction::Back, back_by(x, count, table, out))
     }
 }

@@ -1,19 +1,15 @@
--- The words of the arrays by which a table is converted, and its number of residues.
+-- The words of the arrays by which a table is converted.
 use mathlib.Core.Path.{_≡_, refl}
 use mathlib.Core.Bool.{true}
 use mathlib.Core.List.{List, [], _∷_}
-use Prim.Native.Nat.{ℕ, _/_, _≤_}
-use native.Mathlib.Nat as Nat
-use native.Mathlib.Omega.{arith}
-use mir.Syntax.{w32}
-use mir.Val.{Fits}
+use Prim.Native.Nat.{ℕ}
 use lib.ListN.{length, take}
 use Rattle.array.specs.Words.{Words}
 use Rattle.refusal.specs.Models.{Models}
 use Rattle.refusal.specs.Refusal.{largestDegree}
 use Rattle.held.specs.Held.{valid}
 use Rattle.held.proofs.Valid.{front-models}
-use Rattle.table.specs.Table.{mostWords, converted}
+use Rattle.table.specs.Table.{converted}
 
 -- the first n words of two arrays
 module _ (p n : ℕ) (xs ys : List ℕ) (l1 : length xs ≡ largestDegree) (l2 : length ys ≡ largestDegree) (h : valid p n (take n xs ∷ take n ys ∷ []) ≡ true) where
@@ -28,6 +24,3 @@ module _ (p n : ℕ) (xs ys : List ℕ) (l1 : length xs ≡ largestDegree) (l2 :
 
 pub converts-fronts : (p n : ℕ) (t s t' s' table out : List ℕ) → t' ≡ t → s' ≡ s → out ≡ converted p n t' s' table → out ≡ converted p n t s table
 converts-fronts p n t s t' s' table out e f g = rw (e, f) at g
-
-pub residues-few : (words n : ℕ) → words ≤ mostWords → Fits w32 (words / n)
-residues-few words n h = record { fits = omega (arith, Nat.div-le-self words n) }
