@@ -1,23 +1,44 @@
 // The session, as C has it. A value made otherwise counts as a new session.
 use array::Word;
+use cvalue::RecordValue;
 use cvalue::SessionValue;
 use cvalue::StepValue;
+use cvalue::sessions::conversion_answers;
+use cvalue::sessions::held_answers;
+use cvalue::sessions::held_of;
+use cvalue::sessions::is_valid_value;
 use cvalue::sessions::session_of;
-use cvalue::sessions::step_of;
-use cvalue::sessions::value_of;
-use session::Session;
+use held::Held;
+use held::HeldStep;
+use ledger::Direction;
+use session::convert::back_by;
+use session::convert::forward_by;
+use session::counted::held_if;
 ghost use mathlib.Core.Path.{_≡_};
 ghost use lib.ListN.{length};
-ghost use Rattle.cvalue.specs.Values.{sessionOf, valueOf, stepOf, givenBack};
+ghost use Rattle.cvalue.specs.Values.{newValue, sessionOf, stepOf, givenBack};
 ghost use Rattle.ledger.specs.declared.Direction.the-variants.{Forward, Back};
-ghost use Rattle.session.specs.Session.{newSession, load, propose, find, convert, forwardOutput, backOutput, report, reportText, reportOutput, clear};
+ghost use Rattle.session.specs.Session.{load, propose, find, convert, forwardOutput, backOutput, report, reportText, reportOutput, clear};
 
 // A new session: empty, without records.
 #[no_mangle]
 pub extern "C" fn yokebean_session_new() -> SessionValue
-    ensures { λ r. ⌜ r ≡ valueOf newSession ⌝ }
+    ensures { λ r. ⌜ r ≡ newValue ⌝ }
 {
-    value_of(Session::new())
+    SessionValue {
+        state: 0,
+        p: 0,
+        n: 0,
+        t1: [0; 16],
+        t2: [0; 16],
+        s: [0; 16],
+        r: [0; 16],
+        records: 0,
+        ledger: [RecordValue {
+            direction: 0,
+            residues: 0,
+        }; 512],
+    }
 }
 
 // Empty to loaded: 0, or 23, 1 to 4.
@@ -31,7 +52,9 @@ pub extern "C" fn yokebean_session_load(
 ) -> StepValue
     ensures { λ r. ⌜ r ≡ stepOf session (load (sessionOf session) p n (now (t1 .entry)) (now (t2 .entry))) ⌝ }
 {
-    step_of(session, session_of(session).load(p, n, t1, t2))
+    let held = held_of(session);
+    let valid = is_valid_value(session);
+    held_answers(session, valid, held_if(valid, held).load(p, n, t1, t2))
 }
 
 // Loaded to paired, if the checker accepts: 0, or 21, 24, 3, 4, 8.
@@ -43,7 +66,9 @@ pub extern "C" fn yokebean_session_propose(
 ) -> StepValue
     ensures { λ k. ⌜ k ≡ stepOf session (propose (sessionOf session) (now (s .entry)) (now (r .entry))) ⌝ }
 {
-    step_of(session, session_of(session).propose(s, r))
+    let held = held_of(session);
+    let valid = is_valid_value(session);
+    held_answers(session, valid, held_if(valid, held).propose(s, r))
 }
 
 // Loaded to paired, with the finder's pair: 0, or 21, 24, 5, 6, 7.
@@ -51,7 +76,9 @@ pub extern "C" fn yokebean_session_propose(
 pub extern "C" fn yokebean_session_find(session: SessionValue) -> StepValue
     ensures { λ r. ⌜ r ≡ stepOf session (find (sessionOf session)) ⌝ }
 {
-    step_of(session, session_of(session).find())
+    let held = held_of(session);
+    let valid = is_valid_value(session);
+    held_answers(session, valid, held_if(valid, held).find())
 }
 
 // out := the images of a table of residues modulo T1, by S, modulo T2: 0, or 21, 22, 9, 10, 4, 25.
@@ -64,7 +91,10 @@ pub extern "C" fn yokebean_session_forward(
     ensures { λ r. ⌜ r ≡ stepOf session (convert Forward (sessionOf session) (now (table .entry)) (now (out .entry))) ⌝ }
     ensures { λ r. ⌜ now (out .exit) ≡ forwardOutput (sessionOf session) (now (table .entry)) (now (out .entry)) ⌝ }
 {
-    step_of(session, session_of(session).forward(table, out))
+    let held = held_of(session);
+    let valid = is_valid_value(session);
+    let x = held_if(valid, held);
+    conversion_answers(session, Direction::Forward, forward_by(x, session.records, table, out))
 }
 
 // out := the images of a table of residues modulo T2, by R, modulo T1: 0, or 21, 22, 9, 10, 4, 25.
@@ -77,7 +107,10 @@ pub extern "C" fn yokebean_session_back(
     ensures { λ r. ⌜ r ≡ stepOf session (convert Back (sessionOf session) (now (table .entry)) (now (out .entry))) ⌝ }
     ensures { λ r. ⌜ now (out .exit) ≡ backOutput (sessionOf session) (now (table .entry)) (now (out .entry)) ⌝ }
 {
-    step_of(session, session_of(session).back(table, out))
+    let held = held_of(session);
+    let valid = is_valid_value(session);
+    let x = held_if(valid, held);
+    conversion_answers(session, Direction::Back, back_by(x, session.records, table, out))
 }
 
 // How long the report is.
@@ -106,5 +139,10 @@ pub extern "C" fn yokebean_session_report(session: SessionValue, out: &mut [u8])
 pub extern "C" fn yokebean_session_clear(session: SessionValue) -> StepValue
     ensures { λ r. ⌜ r ≡ stepOf session (clear (sessionOf session)) ⌝ }
 {
-    step_of(session, session_of(session).clear())
+    let held = Held::new();
+    let answer = HeldStep {
+        number: 0,
+        held: held,
+    };
+    held_answers(session, is_valid_value(session), answer)
 }

@@ -1,4 +1,8 @@
--- Sessions as C has them: the images of the first elements of an array (Mapped), records (RecordLaws), and sessions by the tests of the code (SessionLaws).
+-- Sessions as C has them: the images of the first elements of an array (Mapped), records (RecordLaws), sessions by the tests of the code (SessionLaws), the
+-- session that a value counts as (Counting), answers as values (Answers), and the calls (Calls).
 mod Mapped
 mod RecordLaws
 pub mod SessionLaws
+pub mod Counting
+mod Answers
+pub mod Calls

@@ -34,6 +34,3 @@ module _ {A B : Type 0} (f : A → B) (a : A) (z : B) (xs : List A) where
 
     pub mapped-all : count ≤ i → w ≡ upTo mostRecords z (map f (take count xs))
     mapped-all end = e ∙ ap (λ l. upTo mostRecords z (map f l)) (before-all xs count i h end)
-
-    pub mapped-as : count ≤ i → (ys : List A) → take count xs ≡ ys → w ≡ upTo mostRecords z (map f ys)
-    mapped-as end ys g = mapped-all end ∙ ap (λ l. upTo mostRecords z (map f l)) g

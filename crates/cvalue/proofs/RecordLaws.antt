@@ -7,13 +7,10 @@ use native.Mathlib.Numerals.{add-one}
 use native.Mathlib.Omega.{arith}
 use borrow.Author.Tests.{le-leb, lt-leb}
 use lib.ListN.{length, getD, take}
-use lib.Seq.{take-all}
 use Rattle.algebra.specs.Lists.{all}
-use Rattle.ledger.specs.Ledger.{mostRecords, recordsOf}
+use Rattle.ledger.specs.Ledger.{mostRecords}
 use Rattle.ledger.specs.declared.Direction.{Direction}
 use Rattle.ledger.specs.declared.Direction.the-variants.{Back}
-use Rattle.ledger.specs.declared.Ledger.{Ledger}
-use Rattle.ledger.specs.declared.Record.{Record}
 use Rattle.ledger.proofs.Records.{Before, before-there, before-all}
 use Rattle.cvalue.specs.Values.{directionOf, directionNumber, recordOf, recordValue, noneValue, hasDirection}
 use Rattle.cvalue.specs.declared.RecordValue.{RecordValue}
@@ -26,9 +23,9 @@ pub record-made : (v : RecordValue) (d : Direction) → d ≡ directionOf (v .di
 unfolding recordOf
 record-made v d e = rw e
 
-pub value-made : (x : Record) (k : ℕ) → k ≡ directionNumber (x .direction) → record { direction = k; residues = x .residues } ≡ recordValue x
+pub value-made : (d : Direction) (r k : ℕ) → k ≡ directionNumber d → record { direction = k; residues = r } ≡ recordValue (record { direction = d; residues = r })
 unfolding recordValue
-value-made x k e = rw e
+value-made d r k e = rw e
 
 -- the records that count have directions: those before turn i do, and the first that does not decides
 
@@ -72,9 +69,3 @@ module _ (xs : List RecordValue) (count i : ℕ) (b : Before xs count i) (h : al
 
   pub directions-all : count ≤ i → true ≡ all hasDirection (take count xs)
   directions-all end = sym h ∙ ap (all hasDirection) (before-all xs count i b end)
-
--- how many records of a ledger count
-
-module _ (l : Ledger) where
-  pub all-count : mostRecords ≤ l .count → length (l .records) ≡ mostRecords → take mostRecords (l .records) ≡ recordsOf l
-  all-count many long = take-all mostRecords (l .records) (omega arith) ∙ sym (take-all (l .count) (l .records) (omega arith))

@@ -1,8 +1,8 @@
 -- Sessions and their answers as C has them, by the tests of the code.
 --   state-other                     a number above 1 is the state paired
 --   state-past, records-past, directions-decide    whether a value is made, by its state, its records and their directions
+--   value-unmade, value-decides     whether a value counts as itself
 --   new-session, records-few, session-made         the session of a value
---   step-refused, step-accepted     the answer of a call, by its number
 --   report-answers                  the answer of a report of the session of a value
 use mathlib.Core.Path.{_≡_, refl, sym, ap, _∙_}
 use mathlib.Core.Bool.{Bool, true, false, _&&_, not, and-eq-true-iff}
@@ -16,10 +16,11 @@ use Rattle.held.specs.declared.Held.{Held}
 use Rattle.held.specs.declared.State.the-variants.{Paired}
 use Rattle.ledger.specs.Ledger.{mostRecords, none}
 use Rattle.ledger.specs.declared.Record.{Record}
-use Rattle.session.specs.Session.{newSession, report}
+use Rattle.session.specs.Session.{newSession, validWith, report}
 use Rattle.session.specs.declared.Session.{Session}
 use Rattle.session.specs.declared.Step.{Step}
-use Rattle.cvalue.specs.Values.{stateOf, recordOf, hasDirection, made, upTo, heldOf, sessionOf, valueOf, answerOf, stepOf, givenBack}
+use Rattle.cvalue.specs.Values.{stateOf, recordOf, hasDirection, made, upTo, heldOf, sessionOf, givenBack}
+use Rattle.cvalue.specs.Inner.{validValue}
 use Rattle.cvalue.specs.declared.SessionValue.{SessionValue}
 
 pub state-other : (k : ℕ) → (k ≡ 0 → ⊥) → (k ≡ 1 → ⊥) → Paired ≡ stateOf k
@@ -42,6 +43,16 @@ module _ (v : SessionValue) where
     unfolding made
     directions-decide h b e = rw (le-leb (v .state) 2 low, le-leb (v .records) mostRecords h) e
 
+-- whether a value counts as itself
+module _ (v : SessionValue) (b : Bool) (e : b ≡ made v) where
+  pub value-unmade : not b ≡ true → false ≡ validValue v
+  unfolding validValue
+  value-unmade h = rw (← e, not-true b h)
+
+  pub value-decides : not b ≡ false → (h : Held) → h ≡ heldOf v → (c : Bool) → c ≡ validWith h (v .records) → c ≡ validValue v
+  unfolding validValue
+  value-decides h x f c g = rw (← e, not-false b h) (g ∙ ap (λ w. validWith w (v .records)) f)
+
 -- the session of a value
 module _ (v : SessionValue) (b : Bool) (e : b ≡ made v) where
   pub new-session : not b ≡ true → (x : Session) → x ≡ newSession → x ≡ sessionOf v
@@ -60,20 +71,6 @@ module _ (v : SessionValue) (b : Bool) (e : b ≡ made v) where
         → record { held = held; ledger = record { count = v .records; records = records } } ≡ sessionOf v
     unfolding sessionOf
     session-made held records f g = rw (← e, not-false b h, f, g)
-
--- answers
-module _ (v : SessionValue) (y : Step) where
-  pub step-refused : (y .number ≡ 0 → ⊥) → record { number = y .number; session = v } ≡ stepOf v y
-  unfolding stepOf
-  step-refused h = go (y .number) h
-    where
-      go : (k : ℕ) → (k ≡ 0 → ⊥) → record { number = k; session = v } ≡ answerOf k (valueOf (y .session)) v
-      go zero h = absurd (h refl)
-      go (suc k) h = unfold answerOf in refl
-
-  pub step-accepted : y .number ≡ 0 → (w : SessionValue) → w ≡ valueOf (y .session) → record { number = 0; session = w } ≡ stepOf v y
-  unfolding stepOf answerOf
-  step-accepted h w e = rw (h, e)
 
 -- the answer of a report of the session of a value
 pub report-answers : (v : SessionValue) (x : Session) → x ≡ sessionOf v → (out : List ℕ) (y : Step) → y ≡ report x out

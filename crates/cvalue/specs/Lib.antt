@@ -1,2 +1,3 @@
 -- Sessions as C has them.
 pub mod Values
+pub mod Inner

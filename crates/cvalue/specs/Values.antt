@@ -6,15 +6,18 @@
 --   made v             the state is up to 2, the records that count are up to 512, and each of these has a direction
 --   upTo k z xs        xs, and z after them, k elements in all
 --   sessionOf v        the session of a value; a value made otherwise counts as a new one
---   valueOf x          the value of a session; what stands past the records that count is 0
+--   newValue           a new session: zeros
+--   over xs ys         xs in place of the first elements of ys
+--   valueOn v x        the value v with the session x in it: what x holds, and its records that count; what stands past these stays
 --   stepOf v y         the answer of a call that changes a session: refused, the value that was taken
 --   givenBack v y      the answer of a report: always the value that was taken
 use mathlib.Core.Bool.{Bool, true, false, _&&_}
 use mathlib.Core.List.{List, _++_, map}
 use Prim.Native.Nat.{ℕ, zero, suc, _-_}
 use lib.Dec.{leb}
-use lib.ListN.{length, take, replicate}
+use lib.ListN.{length, take, drop, replicate}
 use Rattle.algebra.specs.Lists.{all}
+use Rattle.held.specs.Held.{zeros}
 use Rattle.held.specs.declared.Held.{Held}
 use Rattle.held.specs.declared.State.{State}
 use Rattle.held.specs.declared.State.the-variants.{Empty, Loaded, Paired}
@@ -79,8 +82,15 @@ ifMade false x = newSession
 unfoldable pub sessionOf : SessionValue → Session
 sessionOf v = ifMade (made v) (record { held = heldOf v; ledger = ledgerOf v })
 
-abbrev pub valueWith : Held → Ledger → SessionValue
-valueWith h l =
+abbrev pub newValue : SessionValue
+newValue =
+    record { state = 0; p = 0; n = 0; t1 = zeros; t2 = zeros; s = zeros; r = zeros; records = 0; ledger = replicate mostRecords noneValue }
+
+unfoldable pub over : {A : Type 0} → List A → List A → List A
+over xs ys = xs ++ drop (length xs) ys
+
+abbrev pub valueWith : Held → ℕ → List RecordValue → SessionValue
+valueWith h k xs =
     record {
       state = numberOf (h .state);
       p = h .p;
@@ -89,19 +99,19 @@ valueWith h l =
       t2 = h .t2;
       s = h .s;
       r = h .r;
-      records = l .count;
-      ledger = upTo mostRecords noneValue (map recordValue (recordsOf l));
+      records = k;
+      ledger = xs;
     }
 
-unfoldable pub valueOf : Session → SessionValue
-valueOf x = valueWith (x .held) (x .ledger)
+unfoldable pub valueOn : SessionValue → Session → SessionValue
+valueOn v x = valueWith (x .held) (x .ledger .count) (over (map recordValue (recordsOf (x .ledger))) (v .ledger))
 
 unfoldable pub answerOf : ℕ → SessionValue → SessionValue → StepValue
 answerOf zero next taken = record { number = 0; session = next }
 answerOf (suc k) next taken = record { number = suc k; session = taken }
 
 unfoldable pub stepOf : SessionValue → Step → StepValue
-stepOf v y = answerOf (y .number) (valueOf (y .session)) v
+stepOf v y = answerOf (y .number) (valueOn v (y .session)) v
 
 unfoldable pub givenBack : SessionValue → Step → StepValue
 givenBack v y = record { number = y .number; session = v }

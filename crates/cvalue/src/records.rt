@@ -2,15 +2,14 @@
 use crate::RecordValue;
 use crate::SessionValue;
 use ledger::Direction;
-use ledger::Ledger;
 use ledger::Record;
 ghost use mathlib.Core.List.{map};
 ghost use mathlib.Core.Path.{_≡_};
 ghost use Prim.Native.Nat.{_≤_};
 ghost use lib.ListN.{take};
 ghost use Rattle.algebra.specs.Lists.{all};
-ghost use Rattle.ledger.specs.Ledger.{mostRecords, none, recordsOf};
-ghost use Rattle.cvalue.specs.Values.{directionOf, directionNumber, recordOf, recordValue, noneValue, hasDirection, upTo};
+ghost use Rattle.ledger.specs.Ledger.{mostRecords, none};
+ghost use Rattle.cvalue.specs.Values.{directionOf, directionNumber, recordOf, recordValue, hasDirection, upTo};
 
 // The direction with this number.
 fn direction_of(number: u32) -> Direction
@@ -43,13 +42,12 @@ fn record_of(v: RecordValue) -> Record
 }
 
 // The value of a record.
-fn record_value(entry: Record) -> RecordValue
-    ensures { λ r. ⌜ r ≡ recordValue entry ⌝ }
+pub fn record_value(direction: Direction, residues: u32) -> RecordValue
+    ensures { λ r. ⌜ r ≡ recordValue (record { direction = direction; residues = residues }) ⌝ }
 {
-    let direction = entry.direction;
     RecordValue {
         direction: direction_number(direction),
-        residues: entry.residues,
+        residues: residues,
     }
 }
 
@@ -86,30 +84,4 @@ pub fn records_of(v: SessionValue) -> [Record; 512]
         i += 1;
     }
     records
-}
-
-// How many records of a ledger count; the array has no more than 512.
-fn count_of(ledger: Ledger) -> usize
-    ensures { λ r. ⌜ (r ≤ mostRecords) × (take r (ledger .records) ≡ recordsOf ledger) ⌝ }
-{
-    let count = ledger.count as usize;
-    if count < 512 { count } else { 512 }
-}
-
-// The values of the records that count, and zeros after them.
-pub fn record_values(ledger: Ledger) -> [RecordValue; 512]
-    ensures { λ r. ⌜ r ≡ upTo mostRecords noneValue (map recordValue (recordsOf ledger)) ⌝ }
-{
-    let nothing = RecordValue {
-        direction: 0,
-        residues: 0,
-    };
-    let mut values = [nothing; 512];
-    let count = count_of(ledger);
-    let mut i = 0;
-    while i < count {
-        values[i] = record_value(ledger.records[i]);
-        i += 1;
-    }
-    values
 }

@@ -2,15 +2,20 @@
 use crate::SessionValue;
 use crate::StepValue;
 use crate::records::have_directions;
-use crate::records::record_values;
+use crate::records::record_value;
 use crate::records::records_of;
 use held::Held;
+use held::HeldStep;
 use held::State;
+use ledger::Direction;
 use ledger::Ledger;
 use session::Session;
-use session::Step;
+use session::convert::Converted;
+use session::counted::is_valid;
 ghost use mathlib.Core.Path.{_≡_};
-ghost use Rattle.cvalue.specs.Values.{stateOf, numberOf, made, heldOf, ledgerOf, sessionOf, valueOf, stepOf};
+ghost use Rattle.session.specs.Session.{answer, stepWith, recorded};
+ghost use Rattle.cvalue.specs.Values.{stateOf, numberOf, made, heldOf, sessionOf, valueWith, stepOf};
+ghost use Rattle.cvalue.specs.Inner.{validValue, Recordable};
 
 // The state with this number.
 fn state_of(number: u32) -> State
@@ -48,7 +53,7 @@ fn is_made(v: SessionValue) -> bool
 }
 
 // What the value holds.
-fn held_of(v: SessionValue) -> Held
+pub fn held_of(v: SessionValue) -> Held
     ensures { λ r. ⌜ r ≡ heldOf v ⌝ }
 {
     let t1 = v.t1;
@@ -64,6 +69,17 @@ fn held_of(v: SessionValue) -> Held
         s: s,
         r: r,
     }
+}
+
+// Whether the value counts as itself.
+pub fn is_valid_value(v: SessionValue) -> bool
+    ensures { λ r. ⌜ r ≡ validValue v ⌝ }
+{
+    if !is_made(v) {
+        return false;
+    }
+    let held = held_of(v);
+    is_valid(held, v.records)
 }
 
 // The session of a value; one that is made otherwise counts as a new one.
@@ -85,45 +101,67 @@ pub fn session_of(v: SessionValue) -> Session
     }
 }
 
-// The value of a session.
-pub fn value_of(x: Session) -> SessionValue
-    ensures { λ r. ⌜ r ≡ valueOf x ⌝ }
+// The value with another held value, of which so many records count.
+fn with_held(mut v: SessionValue, held: Held, records: u32) -> SessionValue
+    ensures { λ r. ⌜ r ≡ valueWith held records (v .ledger) ⌝ }
 {
-    let held = x.held;
-    let ledger = x.ledger;
     let state = held.state;
     let t1 = held.t1;
     let t2 = held.t2;
     let s = held.s;
     let r = held.r;
-    let values = record_values(ledger);
-    SessionValue {
-        state: number_of(state),
-        p: held.p,
-        n: held.n,
-        t1: t1,
-        t2: t2,
-        s: s,
-        r: r,
-        records: ledger.count,
-        ledger: values,
-    }
+    v.state = number_of(state);
+    v.p = held.p;
+    v.n = held.n;
+    v.t1 = t1;
+    v.t2 = t2;
+    v.s = s;
+    v.r = r;
+    v.records = records;
+    v
 }
 
-// The answer of a call that changes a session: the number and the next value; refused, the value that was taken.
-pub fn step_of(v: SessionValue, step: Step) -> StepValue
-    ensures { λ r. ⌜ r ≡ stepOf v step ⌝ }
+// The answer where what is held answers y: the value with what is held next, or the value that was taken.
+pub fn held_answers(v: SessionValue, valid: bool, y: HeldStep) -> StepValue
+    requires { ⌜ valid ≡ validValue v ⌝ }
+    ensures { λ r. ⌜ r ≡ stepOf v (stepWith (sessionOf v) y) ⌝ }
 {
-    let number = step.number;
-    if number != 0 {
+    if y.number != 0 {
         return StepValue {
-            number: number,
+            number: y.number,
             session: v,
         };
     }
-    let next = step.session;
+    let held = y.held;
+    if !valid {
+        return StepValue {
+            number: 0,
+            session: with_held(v, held, 0),
+        };
+    }
     StepValue {
         number: 0,
-        session: value_of(next),
+        session: with_held(v, held, v.records),
+    }
+}
+
+// The answer of a conversion: where its number is 0 the value has its record.
+pub fn conversion_answers(mut v: SessionValue, direction: Direction, y: Converted) -> StepValue
+    requires { ⌜ Recordable v (y .number) ⌝ }
+    ensures { λ r. ⌜ r ≡ stepOf v (answer (y .number) (recorded (sessionOf v) direction (y .residues)) (sessionOf v)) ⌝ }
+{
+    if y.number != 0 {
+        return StepValue {
+            number: y.number,
+            session: v,
+        };
+    }
+    let at = v.records as usize;
+    let entry = record_value(direction, y.residues);
+    v.ledger[at] = entry;
+    v.records += 1;
+    StepValue {
+        number: 0,
+        session: v,
     }
 }

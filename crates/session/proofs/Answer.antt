@@ -1,7 +1,8 @@
 -- Answers of calls: a refused call gives back the session it took, and an accepted one the next session.
 --   answer-refused, answer-accepted, answer-keeps, answer-number, answer-zero    by the number
 --   step-refused, step-new, step-next    the answer where what is held answers, by the tests of the code
---   load-answers, propose-answers, find-answers, clear-answers    the answers of the calls
+--   load-by, propose-by, find-by    the calls, by what the session counts as holding
+--   load-answers, propose-answers, find-answers, clear-answers    the same by the tests of the code
 use mathlib.Core.Path.{_≡_, refl, sym, ap, _∙_}
 use mathlib.Core.Bool.{Bool, true, false, not}
 use mathlib.Core.List.{List}
@@ -16,7 +17,7 @@ use Rattle.ledger.specs.declared.Ledger.{Ledger}
 use Rattle.session.specs.Session.{newSession, validSession, counted, heldIf, withHeld, answer, stepWith, load, propose, find, clear}
 use Rattle.session.specs.declared.Session.{Session}
 use Rattle.session.specs.declared.Step.{Step}
-use Rattle.session.proofs.CountsAs.{counts-itself, counts-new, counted-held}
+use Rattle.session.proofs.CountsAs.{counts-itself, counts-new, Counts, counts, counts-held}
 
 module _ (k : ℕ) (next taken : Session) where
   pub answer-refused : (k ≡ 0 → ⊥) → record { number = k; session = taken } ≡ answer k next taken
@@ -66,19 +67,26 @@ module _ (x : Session) (y : HeldStep) where
     pub step-next : not b ≡ false → record { number = 0; session = record { held = y .held; ledger = x .ledger } } ≡ stepWith x y
     step-next h = answer-accepted (y .number) _ x z _ (ap (λ w. withHeld w (y .held)) (counts-itself x b e (not-false b h)))
 
--- the calls
-module _ (x : Session) (b : Bool) (e : b ≡ validSession x) (z : Held) (f : z ≡ heldIf b (x .held)) (y : HeldStep) (r : Step) (g : r ≡ stepWith x y) where
-  own : z ≡ counted x .held
-  own = f ∙ counted-held x b e
+-- the calls, by what the session counts as holding
+module _ {x : Session} {z : Held} {k : ℕ} (c : Counts x z k) (y : HeldStep) where
+  pub load-by : (p n : ℕ) (t1 t2 : List ℕ) → y ≡ Held.load z p n t1 t2 → stepWith x y ≡ load x p n t1 t2
+  load-by p n t1 t2 h = ap (stepWith x) (h ∙ ap (λ w. Held.load w p n t1 t2) (counts-held c))
 
+  pub propose-by : (s u : List ℕ) → y ≡ Held.propose z s u → stepWith x y ≡ propose x s u
+  propose-by s u h = ap (stepWith x) (h ∙ ap (λ w. Held.propose w s u) (counts-held c))
+
+  pub find-by : y ≡ Held.find z → stepWith x y ≡ find x
+  find-by h = ap (stepWith x) (h ∙ ap Held.find (counts-held c))
+
+module _ (x : Session) (b : Bool) (e : b ≡ validSession x) (z : Held) (f : z ≡ heldIf b (x .held)) (y : HeldStep) (r : Step) (g : r ≡ stepWith x y) where
   pub load-answers : (p n : ℕ) (t1 t2 : List ℕ) → y ≡ Held.load z p n t1 t2 → r ≡ load x p n t1 t2
-  load-answers p n t1 t2 h = g ∙ ap (stepWith x) (h ∙ ap (λ w. Held.load w p n t1 t2) own)
+  load-answers p n t1 t2 h = g ∙ load-by (counts x b e z f) y p n t1 t2 h
 
   pub propose-answers : (s u : List ℕ) → y ≡ Held.propose z s u → r ≡ propose x s u
-  propose-answers s u h = g ∙ ap (stepWith x) (h ∙ ap (λ w. Held.propose w s u) own)
+  propose-answers s u h = g ∙ propose-by (counts x b e z f) y s u h
 
   pub find-answers : y ≡ Held.find z → r ≡ find x
-  find-answers h = g ∙ ap (stepWith x) (h ∙ ap Held.find own)
+  find-answers h = g ∙ find-by (counts x b e z f) y h
 
 pub clear-answers : (x : Session) (h : Held) (r : Step) → h ≡ newHeld → r ≡ stepWith x (record { number = 0; held = h }) → r ≡ clear x
 unfolding answer

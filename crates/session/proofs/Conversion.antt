@@ -43,7 +43,7 @@ module _ (x : Session) (table out : List ℕ) where
   number-new h = number-as-new (sym (counts-new x (validSession x) refl h newSession refl))
 
 -- a new value converts nothing
-number-empty : (k : ℕ) (table out : List ℕ) → convertFrom (view newHeld) k table out ≡ 21
+pub number-empty : (k : ℕ) (table out : List ℕ) → convertFrom (view newHeld) k table out ≡ 21
 unfolding convertFrom view validHeld validAs viewAs
 number-empty k table out = refl
 

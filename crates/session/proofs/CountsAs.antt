@@ -1,6 +1,6 @@
 -- What a session counts as: itself where it is valid, else a new one.
 --   Counts x z k    z is what x counts as holding, and, where x counts as itself, k records of it count
-use mathlib.Core.Path.{_≡_, refl, sym, subst}
+use mathlib.Core.Path.{_≡_, refl, sym, ap, subst}
 use mathlib.Core.Bool.{Bool, true, false, and-eq-true-iff}
 use Prim.Native.Nat.{ℕ, _≤_, _<_}
 use native.Mathlib.Omega.{arith}
@@ -44,14 +44,6 @@ module _ (x : Session) where
       go true e = valid-parts (x .held) (x .ledger .count) e .0
       go false e = omega arith
 
-  pub counted-held : (b : Bool) → b ≡ validSession x → heldIf b (x .held) ≡ counted x .held
-  unfolding counted
-  counted-held b e = rw (← e) (go b)
-    where
-      go : (b : Bool) → heldIf b (x .held) ≡ orNew b x .held
-      go true = refl
-      go false = refl
-
 pub data Counts (x : Session) : Held → ℕ → Type 0 where
   as-itself : validSession x ≡ true → Counts x (x .held) (x .ledger .count)
   as-new : {k : ℕ} → counted x ≡ newSession → Counts x newHeld k
@@ -66,6 +58,10 @@ counts x b e z f = subst (λ w. Counts x w (x .ledger .count)) (sym f) (go b e)
 pub held-valid : {x : Session} {z : Held} {k : ℕ} → Counts x z k → validHeld z ≡ true
 held-valid {x} (as-itself h) = valid-parts (x .held) (x .ledger .count) h .1
 held-valid (as-new h) = unfold validHeld validAs in refl
+
+pub counts-held : {x : Session} {z : Held} {k : ℕ} → Counts x z k → z ≡ counted x .held
+counts-held {x} (as-itself h) = ap (λ y. y .held) (counts-itself x (validSession x) refl h)
+counts-held (as-new h) = sym (ap (λ y. y .held) h)
 
 pub held-if-valid : (x : Session) (b : Bool) → b ≡ validSession x → (z : Held) → z ≡ heldIf b (x .held) → validHeld z ≡ true
 held-if-valid x b e z f = held-valid (counts x b e z f)

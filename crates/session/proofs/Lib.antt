@@ -1,8 +1,8 @@
 -- What is proved of sessions: what one counts as (CountsAs), answers (Answer), conversions (Conversion), tables that come back (RoundTrip), and the
 -- theorems (Theorem).
-mod CountsAs
-mod Answer
-mod Conversion
+pub mod CountsAs
+pub mod Answer
+pub mod Conversion
 mod Reporting
 mod RoundTrip
 pub mod Theorem

@@ -1,20 +1,21 @@
--- The value as a session, the call of the session, and its answer as a value.
+-- The call of what the value counts as holding, and its answer as a value.
 use borrow.Author.Needs.{needs}
+use Rattle.cvalue.proofs.Calls.{clear-gives}
 use Rattle.capi.proofs.sessions.yokebean_session_clear.Statement.{statement}
 use Rattle.capi.proofs.sessions.yokebean_session_clear.Tie as tie
 
-session-of-requires : tie.Need-session-of-requires
-session-of-requires c κs = search needs
+new-requires : tie.Need-new-requires
+new-requires c κs = search needs
 
-clear-requires : tie.Need-clear-requires
-clear-requires c κs = search needs
+is-valid-value-requires : tie.Need-is-valid-value-requires
+is-valid-value-requires c κs = search needs
 
-step-of-requires : tie.Need-step-of-requires
-step-of-requires c κs = search needs
+held-answers-requires : tie.Need-held-answers-requires
+held-answers-requires c κs = search needs
 
 returns : tie.Need-returns
-returns c = cc
+returns c = search clear-gives
 
 pub yokebean-session-clear-spec : {M : Type 1} → statement M
 yokebean-session-clear-spec =
-    tie.close (tie.spec session-of-requires clear-requires step-of-requires returns)
+    tie.close (tie.spec new-requires is-valid-value-requires held-answers-requires returns)
