@@ -73,7 +73,7 @@ typedef struct {
 /* A session's value: state 0 is empty, 1 loaded (p, n, t1, t2), 2 paired (also s, r); the first n words of each array and the first `records`
  * records of the ledger count. A value with another state, with more than 512 records, with another direction in a record that counts, or with a
  * p, n or coefficient, of those that its state has, that 1, 2 or 4 refuses, counts as a new one, so without records. Past the records that
- * count the ledger is not looked at; load, propose, find, forward, back and clear write 0 there unless they refuse. */
+ * count the ledger is not looked at and stays as it is. */
 typedef struct {
     uint32_t state, p, n;
     uint16_t t1[16], t2[16], s[16], r[16];

@@ -21,9 +21,9 @@ use Rattle.quotient.specs.DivisorTest.{hasDivisor}
 use Rattle.quotient.specs.Residue.{sum, scale, constant, shift, top, timesX, product, power, residueOfX, substitute, modulusAt}
 use Rattle.refusal.proofs.Refusal.{refuse-none}
 use Rattle.array.specs.Array.{padded}
-use Rattle.held.specs.Held.{valid, viewAs, view, pairedHeld}
+use Rattle.held.specs.Held.{valid, validAs, validHeld, viewAs, view, pairedHeld}
 use Rattle.table.specs.Table.{eachGroup, converted, tableNumber}
-use Rattle.session.specs.Session.{convertNumber, outputBy}
+use Rattle.session.specs.Session.{validWith, counted, convertFrom, convertNumber, outputBy}
 use Rattle.promises.specs.Examples.{FinderValues, Examples}
 use Rattle.promises.proofs.Listed.{root, found, outputs}
 use Rattle.promises.proofs.Refused.{words-counted, factor-divides, indivisible-refused, divisor-refused, second-refused}
@@ -31,7 +31,7 @@ use Rattle.promises.proofs.Refused.{words-counted, factor-divides, indi
 pub examples : Examples
 unfolding all equal first range bits numberFrom bytes packed width allBits card badKind cardLength writeNumber writeOutput zeta rootOfRatio firstNonZero findable findNumber isPrime badPrime isDegree badDegree badLength
     badWord allBelow accepts checkNumberOr monic polynomialProduct sum scale constant shift top timesX product power residueOfX substitute modulusAt
-    padded valid viewAs view pairedHeld eachGroup converted tableNumber convertNumber outputBy
+    padded valid validAs validHeld viewAs view pairedHeld eachGroup converted tableNumber validWith counted convertFrom convertNumber outputBy
 examples =
     let A : FinderValues 3 2 (1 ∷ 0 ∷ []) (2 ∷ 1 ∷ []) 2 (0 ∷ 1 ∷ []) (1 ∷ 2 ∷ []) 2 2 1 (1 ∷ 2 ∷ []) (1 ∷ 2 ∷ []) =
     found refl refl refl (root refl refl refl refl refl) (root refl refl refl refl refl) refl refl in

@@ -3,6 +3,7 @@ use Rattle.answer.proofs.LongInput as Answer
 use Rattle.card.proofs.Theorem as Card
 use Rattle.finder.proofs.Theorem as Finder
 use Rattle.held.proofs.Theorem as Held
+use Rattle.ledger.proofs.Theorem as Ledger
 use Rattle.modular.proofs.IsPrime as Modular
 use Rattle.pair.proofs.Theorem as Pair
 use Rattle.quotient.proofs.Theorem as Quotient
@@ -46,5 +47,10 @@ promises =
       sheet-has-length = Sheet.sheet-has-length;
       sheet-determines = Sheet.sheet-determines;
       sheet-examples = SheetExamples.sheet-examples;
+      totals-count = Session.totals-count;
+      conversion-adds-record = Session.conversion-adds-record;
+      others-keep-ledger = Session.others-keep-ledger;
+      added-behind = Ledger.added-behind;
+      report-determines = Ledger.report-determines;
       examples = Examples.examples;
     }

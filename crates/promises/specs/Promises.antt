@@ -13,15 +13,16 @@ use Rattle.pair.specs.Theorem.{CheckerTheorem, DegreeOne}
 use Rattle.quotient.specs.DivisorTest.{DivisorTestIsExact}
 use Rattle.quotient.specs.Theorem.{ResiduesAreARing, ModulusVanishes, ProductIsRemainder, SubstitutionIsSum, SubstitutionPreserves, ResiduesAreListed, NonZeroIsUnit, PowerOfUnit, IrreducibleDivisor, FrobeniusIsLinear}
 use Rattle.held.specs.Theorem.{CountsAsHeld}
-use Rattle.session.specs.Theorem.{EveryRun, RefusalsChangeNothing, GroupByGroup, BackAgain}
+use Rattle.ledger.specs.Theorem.{AddedBehind, ReportDetermines}
+use Rattle.session.specs.Theorem.{EveryRun, RefusalsChangeNothing, GroupByGroup, BackAgain, ConversionAddsRecord, OthersKeepLedger, TotalsCount}
 use Rattle.sheet.specs.Theorem.{SheetHasLength, SheetDetermines}
 use Rattle.text.specs.Theorem.{DecimalIsDecimal, ColumnDetermines}
 use Rattle.promises.specs.Examples.{Examples}
 use Rattle.promises.specs.SheetExamples.{SheetExamples}
 
 pub record Promises : Type 0 where
-  -- Demand 1 (session/specs/Theorem.antt, held/specs/Theorem.antt): every list of calls makes of a new session one that is new, loaded or paired with an accepted pair; a
-  -- refused call gives back the session and leaves the lent lists; what calls make counts as what it holds
+  -- Demand 1 (session/specs/Theorem.antt, held/specs/Theorem.antt): every list of calls makes of a new session one that is new, loaded or paired with an accepted pair,
+  -- with up to 512 records; a refused call gives back the session and leaves the lent lists; what calls make counts as what it holds
   pub every-run : EveryRun
   pub refusals-change-nothing : RefusalsChangeNothing
   pub counts-as-held : CountsAsHeld
@@ -62,5 +63,13 @@ pub record Promises : Type 0 where
   pub sheet-has-length : SheetHasLength
   pub sheet-determines : SheetDetermines
   pub sheet-examples : SheetExamples
+  -- The ledger of conversions, request S-2 (session/specs/Theorem.antt, ledger/specs/Theorem.antt): each total is the number of residues that the successful conversions
+  -- of its direction had, for every list of calls; a conversion adds one record and changes nothing else; the other calls keep the ledger; a record that is
+  -- added stands behind the others; the report determines the records
+  pub totals-count : TotalsCount
+  pub conversion-adds-record : ConversionAddsRecord
+  pub others-keep-ledger : OthersKeepLedger
+  pub added-behind : AddedBehind
+  pub report-determines : ReportDetermines
   -- Small fields by hand, A to I (specs/Examples.antt)
   pub examples : Examples

@@ -40,9 +40,9 @@ fn convert_number(held: Held, count: u32, table: &[Word], out: &[Word]) -> u32
         State::Empty => 21,
         State::Loaded => 22,
         State::Paired => {
-            let number = table_number(held.p, held.n as usize, table, out);
-            if number != 0 {
-                return number;
+            let refused = table_number(held.p, held.n as usize, table, out);
+            if refused != 0 {
+                return refused;
             }
             if count == Ledger::RECORDS as u32 { 25 } else { 0 }
         }

@@ -40,11 +40,11 @@ impl Session {
     pub fn new() -> Session
         ensures { λ r. ⌜ r ≡ newSession ⌝ }
     {
-        let held = Held::new();
-        let ledger = Ledger::new();
+        let empty = Held::new();
+        let none = Ledger::new();
         Session {
-            held: held,
-            ledger: ledger,
+            held: empty,
+            ledger: none,
         }
     }
 
@@ -111,10 +111,10 @@ impl Session {
     {
         let held = self.held;
         let valid = is_valid(held, self.ledger.count);
-        let empty = Held::new();
+        let nothing = Held::new();
         let answer = HeldStep {
             number: 0,
-            held: empty,
+            held: nothing,
         };
         self.step_with(valid, answer)
     }

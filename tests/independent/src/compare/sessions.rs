@@ -8,7 +8,7 @@ use crate::document::session::{Held, Session as Document};
 use crate::document::{self, finder, is_prime, polynomial};
 use crate::library::{self, Record, Session as Value, Step};
 use crate::random::Random;
-use value::{counts_as, forged, value, with_ledger};
+use value::{counts_as, forged, value, with_ledger, NEW};
 
 /// A table of groups of n words; of a wrong length or with a word of p or more once in a while.
 fn table(random: &mut Random, p: u32, n: u32) -> Vec<u16> {
@@ -60,7 +60,7 @@ struct Calls {
 impl Calls {
     fn new(tally: &mut Tally) -> Self {
         let current = library::new();
-        tally.compare("session_new", 0, &(), &current, &value(&Document::new()));
+        tally.compare("session_new", 0, &(), &current, &NEW);
         Calls { current, sums: [0, 0] }
     }
 
@@ -72,7 +72,7 @@ impl Calls {
 
     fn step(&mut self, call: &'static str, step: Result<Document, u32>, got: Step, tally: &mut Tally) {
         let want = match step {
-            Ok(next) => Step { number: 0, session: value(&next) },
+            Ok(next) => Step { number: 0, session: value(&self.current, &next) },
             Err(number) => Step { number, session: self.current },
         };
         tally.compare(call, want.number, &self.current, &got, &want);

@@ -13,26 +13,28 @@ fn padded(words: &[u16]) -> [u16; 16] {
     array
 }
 
-/// A value with the ledger of a session, and 0 past its records.
+/// A new session.
+pub const NEW: Value = Value { state: 0, p: 0, n: 0, t1: [0; 16], t2: [0; 16], s: [0; 16], r: [0; 16], records: 0, ledger: [NONE; 512] };
+
+/// A value with the records of a session in it; what stands past them stays.
 pub fn with_ledger(value: &Value, session: &Document) -> Value {
-    let mut ledger = [NONE; 512];
+    let mut ledger = value.ledger;
     for (place, &(forward, residues)) in ledger.iter_mut().zip(&session.ledger) {
         *place = Record { direction: u32::from(!forward), residues };
     }
     Value { records: session.ledger.len() as u32, ledger, ..*value }
 }
 
-/// The value that the calls make of a session.
-pub fn value(session: &Document) -> Value {
-    let nothing = Value { state: 0, p: 0, n: 0, t1: [0; 16], t2: [0; 16], s: [0; 16], r: [0; 16], records: 0, ledger: [NONE; 512] };
+/// The value that a call makes of the one that it took, where the session is the next.
+pub fn value(taken: &Value, session: &Document) -> Value {
     let held = match &session.held {
-        Held::Empty => nothing,
-        Held::Loaded { p, n, t1, t2 } => Value { state: 1, p: *p, n: *n, t1: padded(t1), t2: padded(t2), ..nothing },
+        Held::Empty => NEW,
+        Held::Loaded { p, n, t1, t2 } => Value { state: 1, p: *p, n: *n, t1: padded(t1), t2: padded(t2), ..NEW },
         Held::Paired { p, n, t1, t2, s, r } => {
-            Value { state: 2, p: *p, n: *n, t1: padded(t1), t2: padded(t2), s: padded(s), r: padded(r), ..nothing }
+            Value { state: 2, p: *p, n: *n, t1: padded(t1), t2: padded(t2), s: padded(s), r: padded(r), ..NEW }
         }
     };
-    with_ledger(&held, session)
+    with_ledger(&Value { ledger: taken.ledger, ..held }, session)
 }
 
 /// What is held, unless the state is not one or 1, 2 or 4 refuses one of its parts.
