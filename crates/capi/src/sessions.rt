@@ -94,7 +94,11 @@ pub extern "C" fn yokebean_session_forward(
     let held = held_of(session);
     let valid = is_valid_value(session);
     let x = held_if(valid, held);
-    conversion_answers(session, Direction::Forward, forward_by(x, session.records, table, out))
+    conversion_answers(
+        session,
+        Direction::Forward,
+        forward_by(x, session.records, table, out),
+    )
 }
 
 // out := the images of a table of residues modulo T2, by R, modulo T1: 0, or 21, 22, 9, 10, 4, 25.
@@ -110,7 +114,11 @@ pub extern "C" fn yokebean_session_back(
     let held = held_of(session);
     let valid = is_valid_value(session);
     let x = held_if(valid, held);
-    conversion_answers(session, Direction::Back, back_by(x, session.records, table, out))
+    conversion_answers(
+        session,
+        Direction::Back,
+        back_by(x, session.records, table, out),
+    )
 }
 
 // How long the report is.

@@ -118,7 +118,7 @@ module _ (v : SessionValue) (long : length (v .ledger) ≡ mostRecords) where
     held-next h w f =
         let itself : counted (sessionOf v) ≡ own v = counted-value v ∙ ap (λ c. ifMade c (own v)) valid in
         let kept : over (map recordValue (recordsOf (ledgerOf v))) (v .ledger) ≡ v .ledger =
-            ap (λ l. over l (v .ledger)) own-values ∙ over-first (v .records) (v .ledger) (omega (arith, long, records-low v valid)) in
+        ap (λ l. over l (v .ledger)) own-values ∙ over-first (v .records) (v .ledger) (omega (arith, long, records-low v valid)) in
         f ∙ ap (valueWith h (v .records)) (sym kept) ∙ ap (λ x. valueOn v (withHeld x h)) (sym itself)
 
     -- one record more
@@ -139,19 +139,19 @@ module _ (v : SessionValue) (long : length (v .ledger) ≡ mostRecords) where
     record-behind room d r x e =
         let entry : Record = record { direction = d; residues = r } in
         let filled : length (ledgerOf v .records) ≡ mostRecords =
-            omega (
-              arith,
-              length-append (map recordOf taken) (replicate (mostRecords - length (map recordOf taken)) none),
-              length-map taken recordOf,
-              taken-long,
-              length-replicate (mostRecords - length (map recordOf taken)) none,
-            ) in
+        omega (
+          arith,
+          length-append (map recordOf taken) (replicate (mostRecords - length (map recordOf taken)) none),
+          length-map taken recordOf,
+          taken-long,
+          length-replicate (mostRecords - length (map recordOf taken)) none,
+        ) in
         let values : map recordValue (recordsOf (added (ledgerOf v) entry)) ≡ taken ++ (x ∷ []) =
-            ap (map recordValue) (added-behind (ledgerOf v) entry filled room)
-            ∙ map-append recordValue (recordsOf (ledgerOf v)) (entry ∷ [])
-            ∙ ap₂ (λ l y. l ++ (y ∷ [])) own-values (sym e) in
+        ap (map recordValue) (added-behind (ledgerOf v) entry filled room)
+        ∙ map-append recordValue (recordsOf (ledgerOf v)) (entry ∷ [])
+        ∙ ap₂ (λ l y. l ++ (y ∷ [])) own-values (sym e) in
         let behind : over (map recordValue (recordsOf (added (ledgerOf v) entry))) (v .ledger) ≡ set (v .ledger) (v .records) x =
-            ap (λ l. over l (v .ledger)) values ∙ over-next (v .records) (v .ledger) x (omega (arith, long)) in
+        ap (λ l. over l (v .ledger)) values ∙ over-next (v .records) (v .ledger) x (omega (arith, long)) in
         rw (own-session v valid, state-back (v .state) (state-low v valid), behind)
 
   pub next-held : (y : HeldStep) → y .number ≡ 0 → (b : Bool) → b ≡ validValue v → not b ≡ false → (w : SessionValue)

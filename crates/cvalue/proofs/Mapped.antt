@@ -24,7 +24,7 @@ module _ {A B : Type 0} (f : A → B) (a : A) (z : B) (xs : List A) where
         let long : length ys ≡ i = length-map (take i xs) f ∙ length-take-le i xs (omega arith) in
         let left : mostRecords - length ys ≡ suc (mostRecords - (i + 1)) = omega (arith, long, h .few) in
         let next : map f (take (i + 1) xs) ≡ ys ++ (b ∷ []) =
-            ap (λ j. map f (take j xs)) (add-one i) ∙ ap (map f) (take-suc xs i a there) ∙ map-append f (take i xs) (getD xs i a ∷ []) ∙ ap (λ y. ys ++ (y ∷ [])) (sym g) in
+        ap (λ j. map f (take j xs)) (add-one i) ∙ ap (map f) (take-suc xs i a there) ∙ map-append f (take i xs) (getD xs i a ∷ []) ∙ ap (λ y. ys ++ (y ∷ [])) (sym g) in
         let fill : mostRecords - (i + 1) ≡ mostRecords - length (ys ++ (b ∷ [])) = omega (arith, long, length-append ys (b ∷ [])) in
         ap (λ l. set l i b) (e ∙ ap (λ k. ys ++ replicate k z) left)
         ∙ set-at ys z (replicate (mostRecords - (i + 1)) z) b i long

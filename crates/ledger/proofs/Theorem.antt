@@ -38,7 +38,7 @@ number-then k xs = append-assoc (decimal k) (10 ∷ []) xs
 number-determines : (j k : ℕ) (xs ys : List ℕ) → number j ++ xs ≡ number k ++ ys → (j ≡ k) × (xs ≡ ys)
 number-determines j k xs ys e =
     let (digits, rest) = first-newline (decimal j) (decimal k) xs ys (decimal-is-decimal j .digits) (decimal-is-decimal k .digits)
-        (sym (number-then j xs) ∙ e ∙ number-then k ys) in
+    (sym (number-then j xs) ∙ e ∙ number-then k ys) in
     (decimal-determines j k digits, rest)
 
 -- a number begins with a digit, a line with a letter
@@ -95,7 +95,7 @@ lines-determine (x ∷ xs) [] j k us vs e =
     absurd (omega (arith, ap (λ zs. getD zs 0 0) (sym (append-assoc (line x) (lines xs) (number j ++ us)) ∙ e), number-begins k vs, line-begins x (lines xs ++ (number j ++ us))))
 lines-determine (x ∷ xs) (y ∷ ys) j k us vs e =
     let (same, rest) = line-determines x y (lines xs ++ (number j ++ us)) (lines ys ++ (number k ++ vs))
-        (sym (append-assoc (line x) (lines xs) (number j ++ us)) ∙ e ∙ append-assoc (line y) (lines ys) (number k ++ vs)) in
+    (sym (append-assoc (line x) (lines xs) (number j ++ us)) ∙ e ∙ append-assoc (line y) (lines ys) (number k ++ vs)) in
     ap₂ _∷_ same (lines-determine xs ys j k us vs rest)
 
 pub report-determines : ReportDetermines

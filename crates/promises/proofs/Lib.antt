@@ -1,6 +1,7 @@
--- The proofs of all promises, of the examples and of the sheets.
+-- The proofs of all promises, of the examples, the sheets and the reports.
 mod Promises
 mod Examples
 mod SheetExamples
+mod LedgerExamples
 mod Listed
 mod Refused

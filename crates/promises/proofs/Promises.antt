@@ -13,6 +13,7 @@ use Rattle.text.proofs.Theorem as Text
 use Rattle.text.proofs.ColumnDetermines as Columns
 use Rattle.promises.specs.Promises.{Promises}
 use Rattle.promises.proofs.Examples as Examples
+use Rattle.promises.proofs.LedgerExamples as LedgerExamples
 use Rattle.promises.proofs.SheetExamples as SheetExamples
 
 pub promises : Promises
@@ -52,5 +53,6 @@ promises =
       others-keep-ledger = Session.others-keep-ledger;
       added-behind = Ledger.added-behind;
       report-determines = Ledger.report-determines;
+      ledger-examples = LedgerExamples.ledger-examples;
       examples = Examples.examples;
     }

@@ -1,4 +1,5 @@
--- All that is promised, the examples of document 01, and two sheets.
+-- All that is promised, the examples of document 01, two sheets and two reports.
 pub mod Promises
 pub mod Examples
 pub mod SheetExamples
+pub mod LedgerExamples

@@ -18,6 +18,7 @@ use Rattle.session.specs.Theorem.{EveryRun, RefusalsChangeNothing, GroupByGroup
 use Rattle.sheet.specs.Theorem.{SheetHasLength, SheetDetermines}
 use Rattle.text.specs.Theorem.{DecimalIsDecimal, ColumnDetermines}
 use Rattle.promises.specs.Examples.{Examples}
+use Rattle.promises.specs.LedgerExamples.{LedgerExamples}
 use Rattle.promises.specs.SheetExamples.{SheetExamples}
 
 pub record Promises : Type 0 where
@@ -65,11 +66,12 @@ pub record Promises : Type 0 where
   pub sheet-examples : SheetExamples
   -- The ledger of conversions, request S-2 (session/specs/Theorem.antt, ledger/specs/Theorem.antt): each total is the number of residues that the successful conversions
   -- of its direction had, for every list of calls; a conversion adds one record and changes nothing else; the other calls keep the ledger; a record that is
-  -- added stands behind the others; the report determines the records
+  -- added stands behind the others; the report determines the records; reports computed (specs/LedgerExamples.antt)
   pub totals-count : TotalsCount
   pub conversion-adds-record : ConversionAddsRecord
   pub others-keep-ledger : OthersKeepLedger
   pub added-behind : AddedBehind
   pub report-determines : ReportDetermines
+  pub ledger-examples : LedgerExamples
   -- Small fields by hand, A to I (specs/Examples.antt)
   pub examples : Examples

@@ -190,7 +190,7 @@ module _ (d : Direction) where
 pub totals-count : TotalsCount
 unfolding reportText report
 totals-count cs = (
-      λ d. total-is d cs,
-      ap (λ l. report (recordsOf l)) (counted-ledger (every-kept cs))
+  λ d. total-is d cs,
+  ap (λ l. report (recordsOf l)) (counted-ledger (every-kept cs))
       ∙ ap₂ (λ f b. lines (recordsOf (run newSession cs .ledger)) ++ (number f ++ number b)) (total-is Forward cs) (total-is Back cs),
-    )
+)

@@ -44,7 +44,11 @@ fn convert_number(held: Held, count: u32, table: &[Word], out: &[Word]) -> u32
             if refused != 0 {
                 return refused;
             }
-            if count == Ledger::RECORDS as u32 { 25 } else { 0 }
+            if count == Ledger::RECORDS as u32 {
+                25
+            } else {
+                0
+            }
         }
     }
 }

@@ -30,6 +30,10 @@ impl Session {
         ensures { λ r. ⌜ r ≡ countedOf self ⌝ }
     {
         let held = self.held;
-        if is_valid(held, self.ledger.count) { self } else { Session::new() }
+        if is_valid(held, self.ledger.count) {
+            self
+        } else {
+            Session::new()
+        }
     }
 }

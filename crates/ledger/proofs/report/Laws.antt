@@ -164,5 +164,5 @@ module _ (xs : List Record) (before : List ℕ) (room : length before ≡ length
           let forward : Appended m (number (total Forward xs)) listed counted n = subst (λ k. Appended m (number k) listed counted n) ef b in
           let back : Appended n (number (total Back xs)) counted after r = subst (λ k. Appended n (number k) counted after r) eg c in
           let all = append-both 0 m r (lines xs) (number (total Forward xs) ++ number (total Back xs)) before listed after a
-              (append-both m n r (number (total Forward xs)) (number (total Back xs)) listed counted after forward back) in
+          (append-both m n r (number (total Forward xs)) (number (total Back xs)) listed counted after forward back) in
           sym (take-all r after (omega (arith, all .end-is, room))) ∙ all .list-is
