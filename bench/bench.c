@@ -24,6 +24,7 @@ static const row rows[] = {
     {"CONVERT", CONVERT, 65521, 4},
     {"CONVERT", CONVERT, 65521, 8},
     {"CONVERT", CONVERT, 65521, 16},
+    {"CONVERT one residue", CONVERT, 65521, 2, .single = 1},
     {"CONVERT one residue", CONVERT, 65521, 16, .single = 1},
     {"product", PRODUCT, 65521, 2, .inside = 1},
     {"product", PRODUCT, 65521, 4, .inside = 1},

@@ -1,3 +1,4 @@
 -- Sessions as C has them.
 pub mod Values
 pub mod Inner
+pub mod Theorem

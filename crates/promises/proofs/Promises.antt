@@ -1,6 +1,7 @@
 -- Every promise with its proof.
 use Rattle.answer.proofs.LongInput as Answer
 use Rattle.card.proofs.Theorem as Card
+use Rattle.cvalue.proofs.Theorem as Values
 use Rattle.finder.proofs.Theorem as Finder
 use Rattle.held.proofs.Theorem as Held
 use Rattle.ledger.proofs.Theorem as Ledger
@@ -54,5 +55,6 @@ promises =
       added-behind = Ledger.added-behind;
       report-determines = Ledger.report-determines;
       ledger-examples = LedgerExamples.ledger-examples;
+      values-follow = Values.values-follow;
       examples = Examples.examples;
     }

@@ -7,6 +7,7 @@
 -- promises say what these definitions mean.
 use Rattle.answer.specs.Theorem.{LongInput}
 use Rattle.card.specs.Theorem.{WrittenReadsBack, ReadIsWritten, LongestCard}
+use Rattle.cvalue.specs.Theorem.{ValuesFollow}
 use Rattle.finder.specs.Theorem.{Demand3Theorem}
 use Rattle.modular.specs.Prime.{PrimeTestIsExact}
 use Rattle.pair.specs.Theorem.{CheckerTheorem, DegreeOne}
@@ -73,5 +74,7 @@ pub record Promises : Type 0 where
   pub added-behind : AddedBehind
   pub report-determines : ReportDetermines
   pub ledger-examples : LedgerExamples
+  -- Over C (cvalue/specs/Theorem.antt): every list of calls makes of a new value one that is taken for the session that it makes of a new session
+  pub values-follow : ValuesFollow
   -- Small fields by hand, A to I (specs/Examples.antt)
   pub examples : Examples

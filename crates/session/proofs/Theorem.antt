@@ -33,12 +33,12 @@ use Rattle.session.proofs.RoundTrip as RoundTrip
 
 -- what every call keeps: such a session counts as itself
 
-record Kept (x : Session) : Type 0 where
-  reached : Reached (x .held)
-  few : x .ledger .count ≤ mostRecords
-  long : length (x .ledger .records) ≡ mostRecords
+pub record Kept (x : Session) : Type 0 where
+  pub reached : Reached (x .held)
+  pub few : x .ledger .count ≤ mostRecords
+  pub long : length (x .ledger .records) ≡ mostRecords
 
-itself : {x : Session} → Kept x → x ≡ counted x
+pub itself : {x : Session} → Kept x → x ≡ counted x
 itself {x} h = counts-itself x true (within-limit (x .held) (x .ledger .count) (h .few) true (sym (reached-valid (h .reached)))) refl
 
 kept-counted : {x : Session} → Kept x → Kept (counted x)
@@ -56,7 +56,7 @@ recorded-kept : {x : Session} → Kept x → x .ledger .count < mostRecords → 
 recorded-kept {x} h room d k =
     record { reached = h .reached; few = omega arith; long = length-set (x .ledger .records) (x .ledger .count) _ ∙ h .long }
 
-kept-next : {x : Session} → Kept x → (c : Call) → Kept (next x c)
+pub kept-next : {x : Session} → Kept x → (c : Call) → Kept (next x c)
 unfolding next convert
 kept-next {x} h (callLoad p n t1 t2) =
     answer-kept _ _ x (λ _. with-held-kept (kept-counted h) (calls-reach .load-reaches (kept-counted h .reached) p n t1 t2)) h
@@ -71,7 +71,7 @@ unfolding run
 kept-run h [] = h
 kept-run h (c ∷ cs) = kept-run (kept-next h c) cs
 
-kept-new : Kept newSession
+pub kept-new : Kept newSession
 kept-new = record { reached = is-new; few = omega arith; long = refl }
 
 every-kept : (cs : List Call) → Kept (run newSession cs)
