@@ -22,7 +22,7 @@ use Rattle.ledger.proofs.Theorem.{added-behind}
 use Rattle.session.specs.Session.{newSession, counted, withHeld, answer, stepWith, recorded}
 use Rattle.session.specs.declared.Session.{Session}
 use Rattle.cvalue.specs.Inner.{validValue, Recordable}
-use Rattle.cvalue.specs.Values.{stateOf, numberOf, directionOf, directionNumber, recordOf, recordValue, hasDirection, upTo, over, heldOf, ledgerOf, ifMade, sessionOf, valueWith, valueOn, answerOf, stepOf}
+use Rattle.cvalue.specs.Values.{stateOf, numberOf, directionOf, directionNumber, recordOf, recordValue, hasDirection, upTo, over, ledgerOf, ifMade, sessionOf, valueWith, valueOn, answerOf, stepOf}
 use Rattle.cvalue.specs.declared.RecordValue.{RecordValue}
 use Rattle.cvalue.specs.declared.SessionValue.{SessionValue}
 use Rattle.cvalue.proofs.Counting.{own, counted-value, own-session, state-low, records-low, have-directions}

@@ -4,13 +4,12 @@
 use mathlib.Core.Path.{_≡_, refl, sym, ap, _∙_}
 use mathlib.Core.Bool.{Bool, true, false}
 use mathlib.Core.List.{List}
-use Prim.Native.Nat.{ℕ, _<_}
+use Prim.Native.Nat.{ℕ}
 use native.Mathlib.Omega.{arith}
 use Rattle.held.specs.Held as Held
 use Rattle.held.specs.Held.{view, t1Of, t2Of, sOf, rOf, newHeld}
 use Rattle.held.specs.declared.Held.{Held}
 use Rattle.held.specs.declared.HeldStep.{HeldStep}
-use Rattle.ledger.specs.Ledger.{mostRecords}
 use Rattle.ledger.specs.declared.Direction.{Direction}
 use Rattle.session.specs.Session.{heldIf, answer, stepWith, load, propose, find, convertFrom, recorded, convert, forwardOutput, backOutput, clear}
 use Rattle.session.specs.Inner.{convertedFrom, outputFrom}

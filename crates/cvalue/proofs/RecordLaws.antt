@@ -8,7 +8,6 @@ use native.Mathlib.Omega.{arith}
 use borrow.Author.Tests.{le-leb, lt-leb}
 use lib.ListN.{length, getD, take}
 use Rattle.algebra.specs.Lists.{all}
-use Rattle.ledger.specs.Ledger.{mostRecords}
 use Rattle.ledger.specs.declared.Direction.{Direction}
 use Rattle.ledger.specs.declared.Direction.the-variants.{Back}
 use Rattle.ledger.proofs.Records.{Before, before-there, before-all}

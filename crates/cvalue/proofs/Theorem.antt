@@ -1,23 +1,22 @@
 -- Sessions over C follow those of the library: a value that calls made has the session's records, with none after them, so that it is taken for that
 -- session again.
 use mathlib.Core.Path.{_≡_, refl, sym, ap, ap₂, subst, _∙_}
-use mathlib.Core.Bool.{Bool, true, _&&_}
-use mathlib.Core.List.{List, [], _∷_, _++_, map, map-append}
-use Prim.Native.Nat.{ℕ, zero, suc, _+_, _-_, _≤_, _<_}
-use native.Mathlib.Numerals.{add-one}
+use mathlib.Core.Bool.{true}
+use mathlib.Core.List.{List, [], _∷_, map}
+use Prim.Native.Nat.{ℕ, zero, suc, _-_, _≤_, _<_}
 use native.Mathlib.Omega.{arith}
 use borrow.Author.Tests.{le-leb}
 use lib.ListN.{length, take, drop, set, replicate, length-append, length-drop, length-map, length-replicate}
-use lib.Seq.{length-take-le, take-at, take-suc-set, set-at, append-snoc}
+use lib.Seq.{length-take-le, take-at}
 use Rattle.algebra.specs.Lists.{all}
 use Rattle.held.specs.declared.State.{State}
 use Rattle.held.specs.declared.State.the-variants.{Empty, Loaded, Paired}
-use Rattle.ledger.specs.Ledger.{mostRecords, none, newLedger, recordsOf, added}
+use Rattle.ledger.specs.Ledger.{mostRecords, none, recordsOf}
 use Rattle.ledger.specs.declared.Direction.{Direction}
 use Rattle.ledger.specs.declared.Direction.the-variants.{Forward, Back}
 use Rattle.ledger.specs.declared.Ledger.{Ledger}
 use Rattle.ledger.specs.declared.Record.{Record}
-use Rattle.session.specs.Session.{newSession, counted, withHeld, answer, load, propose, find, recorded, convertNumber, convert, clear}
+use Rattle.session.specs.Session.{newSession, counted, answer, recorded, convert}
 use Rattle.session.specs.Theorem.{Call, callLoad, callPropose, callFind, callConvert, callReport, callClear, next, run}
 use Rattle.session.specs.declared.Session.{Session}
 use Rattle.session.proofs.Theorem.{Kept, kept-new, kept-next, itself}
@@ -27,6 +26,7 @@ use Rattle.cvalue.specs.Theorem.{nextValue, runValues, ValuesFollow}
 use Rattle.cvalue.specs.Values.{stateOf, numberOf, directionOf, directionNumber, recordOf, recordValue, hasDirection, made, upTo, over, newValue, heldOf, ledgerOf, ifMade, sessionOf, valueOn, answerOf, stepOf, givenBack}
 use Rattle.cvalue.specs.declared.RecordValue.{RecordValue}
 use Rattle.cvalue.specs.declared.SessionValue.{SessionValue}
+use Rattle.cvalue.proofs.Mapped.{upTo-next}
 
 -- numbers there and back
 
@@ -61,16 +61,6 @@ upTo-long z xs h = omega (arith, length-append xs (replicate (mostRecords - leng
 over-long : {A : Type 0} (xs ys : List A) → length xs ≤ length ys → length (over xs ys) ≡ length ys
 unfolding over
 over-long xs ys h = omega (arith, length-append xs (drop (length xs) ys), length-drop (length xs) ys)
-
-upTo-next : {A : Type 0} (z : A) (xs : List A) (x : A) → length xs < mostRecords → set (upTo mostRecords z xs) (length xs) x ≡ upTo mostRecords z (xs ++ (x ∷ []))
-unfolding upTo
-upTo-next z xs x h =
-    let left : mostRecords - length xs ≡ suc (mostRecords - (length xs + 1)) = omega arith in
-    let fill : mostRecords - (length xs + 1) ≡ mostRecords - length (xs ++ (x ∷ [])) = omega (arith, length-append xs (x ∷ [])) in
-    ap (λ k. set (xs ++ replicate k z) (length xs) x) left
-    ∙ set-at xs z (replicate (mostRecords - (length xs + 1)) z) x (length xs) refl
-    ∙ sym (append-snoc xs x (replicate (mostRecords - (length xs + 1)) z))
-    ∙ ap (λ k. (xs ++ (x ∷ [])) ++ replicate k z) fill
 
 -- a value with a session in it is taken for that session
 

@@ -3,7 +3,7 @@
 --   step-refused, step-new, step-next    the answer where what is held answers, by the tests of the code
 --   load-by, propose-by, find-by    the calls, by what the session counts as holding
 --   load-answers, propose-answers, find-answers, clear-answers    the same by the tests of the code
-use mathlib.Core.Path.{_≡_, refl, sym, ap, _∙_}
+use mathlib.Core.Path.{_≡_, refl, ap, _∙_}
 use mathlib.Core.Bool.{Bool, true, false, not}
 use mathlib.Core.List.{List}
 use Prim.Native.Nat.{ℕ, zero, suc}
@@ -14,7 +14,7 @@ use Rattle.held.specs.declared.Held.{Held}
 use Rattle.held.specs.declared.HeldStep.{HeldStep}
 use Rattle.ledger.specs.Ledger.{newLedger}
 use Rattle.ledger.specs.declared.Ledger.{Ledger}
-use Rattle.session.specs.Session.{newSession, validSession, counted, heldIf, withHeld, answer, stepWith, load, propose, find, clear}
+use Rattle.session.specs.Session.{newSession, validSession, heldIf, withHeld, answer, stepWith, load, propose, find, clear}
 use Rattle.session.specs.declared.Session.{Session}
 use Rattle.session.specs.declared.Step.{Step}
 use Rattle.session.proofs.CountsAs.{counts-itself, counts-new, Counts, counts, counts-held}

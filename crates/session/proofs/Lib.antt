@@ -1,5 +1,5 @@
--- What is proved of sessions: what one counts as (CountsAs), answers (Answer), conversions (Conversion), tables that come back (RoundTrip), and the
--- theorems (Theorem).
+-- What is proved of sessions: what one counts as (CountsAs), answers (Answer), conversions (Conversion), reports (Reporting), tables that come back
+-- (RoundTrip), and the theorems (Theorem).
 pub mod CountsAs
 pub mod Answer
 pub mod Conversion

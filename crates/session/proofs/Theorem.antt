@@ -8,7 +8,7 @@ use lib.ListN.{length, length-set}
 use Rattle.refusal.proofs.Written.{output-old}
 use Rattle.pair.specs.Pair.{forward, backward}
 use Rattle.pair.specs.Theorem.{Given}
-use Rattle.held.specs.Held.{t1Of, t2Of, sOf, rOf, newHeld}
+use Rattle.held.specs.Held.{t1Of, t2Of, sOf, rOf}
 use Rattle.held.specs.Held as Held
 use Rattle.held.specs.Theorem.{Reached, is-new}
 use Rattle.held.specs.declared.Held.{Held}
@@ -23,7 +23,7 @@ use Rattle.ledger.proofs.Records.{total-append}
 use Rattle.ledger.proofs.Theorem.{added-behind}
 use Rattle.table.proofs.Convertible.{Convertible, table-given}
 use Rattle.table.proofs.Groups.{converted-images}
-use Rattle.session.specs.Session.{newSession, validSession, counted, withHeld, answer, whereZero, convertNumber, outputBy, recorded, convert, reportText, reportNumber}
+use Rattle.session.specs.Session.{newSession, counted, withHeld, answer, whereZero, convertNumber, outputBy, recorded, convert, reportText, reportNumber}
 use Rattle.session.specs.Theorem.{Call, callLoad, callPropose, callFind, callConvert, callReport, callClear, next, run, EveryRun, RefusalsChangeNothing, GroupByGroup, BackAgain, ConversionAddsRecord, OthersKeepLedger, convertedBy, convertedIn, TotalsCount}
 use Rattle.session.specs.declared.Session.{Session}
 use Rattle.session.proofs.Answer.{answer-keeps, answer-number, answer-zero}

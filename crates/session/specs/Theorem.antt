@@ -19,7 +19,7 @@
 --                               conversions of its direction in that list had", and the report ends in these totals
 use mathlib.Core.Path.{_≡_}
 use mathlib.Core.List.{List, [], _∷_, _++_}
-use Prim.Native.Nat.{ℕ, zero, suc, _+_, _/_, _≤_, _<_}
+use Prim.Native.Nat.{ℕ, _+_, _/_, _≤_, _<_}
 use lib.ListN.{length}
 use Rattle.pair.specs.Pair.{forward, backward}
 use Rattle.held.specs.Held.{t1Of, t2Of, sOf, rOf}

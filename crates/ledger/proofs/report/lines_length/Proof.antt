@@ -1,6 +1,6 @@
 -- Before turn i the sum is the length of the lines of the first i records.
 use borrow.Author.Needs.{needs}
-use mathlib.Core.Path.{_≡_, refl}
+use mathlib.Core.Path.{_≡_}
 use Prim.Native.Nat.{_-_, _*_, _≤_}
 use lib.ListN.{length, take}
 use Rattle.ledger.specs.Ledger.{lines}

@@ -1,7 +1,5 @@
 -- A new session holds a new value and no records.
 use borrow.Author.Needs.{needs}
-use Rattle.held.proofs.Held.new.Reads as Held-new-reads
-use Rattle.ledger.proofs.Ledger.new.Reads as Ledger-new-reads
 use Rattle.session.proofs.Session.new.Statement.{statement}
 use Rattle.session.proofs.Session.new.Tie as tie
 
