@@ -33,7 +33,7 @@ module _ {A B : Type 0} (f : A → B) (a : A) (z : B) (xs : List A) where
         let ys : List B = map f (take i xs) in
         let long : length ys ≡ i = length-map (take i xs) f ∙ length-take-le i xs (omega arith) in
         let next : ys ++ (b ∷ []) ≡ map f (take (i + 1) xs) =
-            ap (λ y. ys ++ (y ∷ [])) g ∙ sym (map-append f (take i xs) (getD xs i a ∷ [])) ∙ ap (map f) (sym (take-suc xs i a there)) ∙ ap (λ j. map f (take j xs)) (sym (add-one i)) in
+        ap (λ y. ys ++ (y ∷ [])) g ∙ sym (map-append f (take i xs) (getD xs i a ∷ [])) ∙ ap (map f) (sym (take-suc xs i a there)) ∙ ap (λ j. map f (take j xs)) (sym (add-one i)) in
         ap₂ (λ l k. set l k b) e (sym long) ∙ upTo-next z ys b (omega (arith, long, h .few)) ∙ ap (upTo mostRecords z) next
 
     pub mapped-all : count ≤ i → w ≡ upTo mostRecords z (map f (take count xs))
