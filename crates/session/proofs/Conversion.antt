@@ -89,8 +89,8 @@ module _ (x : Held) (v : validHeld x ≡ true) (k : ℕ) (table out : List ℕ) 
       pub convert-full : j ≡ 0 → k ≡ mostRecords → 25 ≡ convertFrom (view x) k table out
       convert-full z full = rw (number-paired, ← g, z, eq-eqb k mostRecords full)
 
-      pub convert-accepted : j ≡ 0 → (k ≡ mostRecords → ⊥) → 0 ≡ convertFrom (view x) k table out
-      convert-accepted z room = rw (number-paired, ← g, z, ne-eqb k mostRecords room)
+      pub convert-accepted : j ≡ 0 → (k ≡ mostRecords → ⊥) → j ≡ convertFrom (view x) k table out
+      convert-accepted z room = z ∙ rw (number-paired, ← g, z, ne-eqb k mostRecords room)
 
 -- what a number 0 says of a value and k records
 module _ (x : Held) (k : ℕ) (table out : List ℕ) where

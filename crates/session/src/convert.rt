@@ -45,10 +45,9 @@ fn convert_number(held: Held, count: u32, table: &[Word], out: &[Word]) -> u32
                 return refused;
             }
             if count == Ledger::RECORDS as u32 {
-                25
-            } else {
-                0
+                return 25;
             }
+            refused
         }
     }
 }

@@ -26,13 +26,13 @@ cast-if2 : tie.Need-cast-if2
 cast-if2 c = search needs
 
 returns-2 : tie.Need-returns-2
-returns-2 c = search convert-empty
+returns-2 c = search convert-full
 
 returns-3 : tie.Need-returns-3
-returns-3 c = search convert-loaded
+returns-3 c = search convert-empty
 
 returns-4 : tie.Need-returns-4
-returns-4 c = search convert-full
+returns-4 c = search convert-loaded
 
 returns-5 : tie.Need-returns-5
 returns-5 c = search convert-accepted
