@@ -9,7 +9,7 @@ use native.Mathlib.Omega.{arith}
 use Rattle.algebra.specs.Prime.{Prime}
 use Rattle.algebra.specs.Ring.{CommutativeRing, numeral}
 use Rattle.algebra.specs.Ring as Ring
-use Rattle.algebra.proofs.RingLaws.{power-zero, power-suc, power-of-zero, numeral-zero, numeral-one}
+use Rattle.algebra.proofs.RingLaws.{power-of-zero, numeral-zero, numeral-one}
 use Rattle.quotient.specs.Divisor.{Divides, HasDivisor}
 use Rattle.array.specs.Words.{Words}
 use Rattle.quotient.specs.Residue.{Residue, constant, power}
@@ -18,7 +18,7 @@ use Rattle.quotient.proofs.Divisor.{divides-transitive, reduction-homomorphism}
 use Rattle.quotient.proofs.Field.{residueField, nonzeroResidues, nonzero-residues}
 use Rattle.quotient.proofs.Reduction.{characteristic, reduce}
 use Rattle.quotient.proofs.Ring.{residueRing}
-use Rattle.quotient.proofs.Substitution.{Homomorphism, homomorphism-numeral}
+use Rattle.quotient.proofs.Substitution.{Homomorphism, homomorphism-numeral, homomorphism-power}
 use Rattle.array.proofs.Words.{words-length}
 use Rattle.roots.specs.Roots.{OrderModulo}
 use Rattle.algebra.proofs.Constants.{numeral-nonzero}
@@ -29,16 +29,12 @@ use Rattle.galois.proofs.ResidueConstants.{ring-proper, fixed-constant,
 use Rattle.roots.proofs.Zeta.{constant-order, power-of-numeral}
 
 module _ {A B : Type 0} {R : CommutativeRing A} {S : CommutativeRing B} {f : A → B} (h : Homomorphism R S f) where
-  homomorphism-power : (a : A) (k : ℕ) → f (Ring.power R a k) ≡ Ring.power S (f a) k
-  homomorphism-power a zero = ap f (power-zero R a) ∙ h .one ∙ sym (power-zero S (f a))
-  homomorphism-power a (suc k) = ap f (power-suc R a k) ∙ h .mul a (Ring.power R a k) ∙ ap (S .mul (f a)) (homomorphism-power a k) ∙ sym (power-suc S (f a) k)
-
   -- the image of an eigenvector is an eigenvector if its n-th power is not 0
   eigen-image : (p z n : ℕ) (a : A) → Eigen R p (numeral R z) a → (f (Ring.power R a (suc n)) ≡ S .zero → ⊥) → Eigen S p (numeral S z) (f a)
   eigen-image p z n a e nz =
       record {
-        nonzero = λ o. nz (homomorphism-power a (suc n) ∙ ap (λ x. Ring.power S x (suc n)) o ∙ power-of-zero S n);
-        power-is = sym (homomorphism-power a p) ∙ ap f (e .power-is) ∙ h .mul (numeral R z) a ∙ ap (λ x. S .mul x (f a)) (homomorphism-numeral h z);
+        nonzero = λ o. nz (homomorphism-power h a (suc n) ∙ ap (λ x. Ring.power S x (suc n)) o ∙ power-of-zero S n);
+        power-is = sym (homomorphism-power h a p) ∙ ap f (e .power-is) ∙ h .mul (numeral R z) a ∙ ap (λ x. S .mul x (f a)) (homomorphism-numeral h z);
       }
 
 module _ {p n : ℕ} {t : List ℕ} (prime : Prime p) (wt : Words p (suc n) t) (z : ℕ) (order : OrderModulo p (suc n) z) {v : List ℕ}

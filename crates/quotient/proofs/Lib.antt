@@ -13,7 +13,7 @@ pub mod Listing
 pub mod Divisor
 pub mod Decision
 pub mod Descent
-mod Units
+pub mod Units
 pub mod Field
 pub mod Frobenius
 pub mod Theorem

@@ -37,6 +37,11 @@ module _ {A B : Type 0} {R : CommutativeRing A} {S : CommutativeRing B} {f : A �
   homomorphism-numeral zero = homomorphism-zero
   homomorphism-numeral (suc c) = h .add _ _ ∙ ap₂ (S .add) (h .one) (homomorphism-numeral c)
 
+  pub homomorphism-power : (a : A) (k : ℕ) → f (Ring.power R a k) ≡ Ring.power S (f a) k
+  homomorphism-power a zero = ap f (Laws.power-zero R a) ∙ h .one ∙ sym (Laws.power-zero S (f a))
+  homomorphism-power a (suc k) =
+      ap f (Laws.power-suc R a k) ∙ h .mul a (Ring.power R a k) ∙ ap (S .mul (f a)) (homomorphism-power a k) ∙ sym (Laws.power-suc S (f a) k)
+
   -- f(u(a)) = u(f(a))
   pub homomorphism-evaluate : (u : List ℕ) (a : A) → f (evaluate R u a) ≡ evaluate S u (f a)
   homomorphism-evaluate [] a = simp Evaluation.evaluate-nil homomorphism-zero

@@ -1,0 +1,4 @@
+-- Rabin's criterion.
+mod PrimeDivisor
+mod Period
+pub mod Rabin

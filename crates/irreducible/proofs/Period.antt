@@ -1,0 +1,122 @@
+-- The powers x^(p^k) of one element: where x^(p^d) = x, they repeat with period d. In the field of the residues modulo a D of degree d without proper
+-- divisors, the period of the residue of X is d: every residue satisfies u^(p^d) = u, and X^(p^k) = X for a 0 < k < d would give u^(p^k) = u for
+-- all p^d residues u, which is too many.
+use mathlib.Core.Path.{_≡_, sym, ap, _∙_}
+use mathlib.Core.List.{List}
+use Prim.Native.Nat.{ℕ, zero, suc, _+_, _-_, _*_, _/_, _%_, _^_, _≤_, _<_}
+use native.Mathlib.Nat.{pow-zero, pow-suc, pow-le-pow-right, one-le-pow, add-zero, mul-zero, le-dest, div-add-mod, mod-lt, pos-of-ne-zero}
+use native.Mathlib.Decide.{ℕ-discrete}
+use native.Mathlib.Omega.{arith}
+use lib.ListN.{length}
+use Rattle.algebra.specs.Prime.{Prime}
+use Rattle.algebra.specs.Ring.{CommutativeRing, Field, power}
+use Rattle.algebra.proofs.FieldLaws.{mul-left-cancel}
+use Rattle.algebra.proofs.Lists.{member-all}
+use Rattle.algebra.proofs.PowerRoots.{power-roots-at-most}
+use Rattle.algebra.proofs.RingLaws.{power-mul, power-of-zero, power-one, power-suc}
+use Rattle.array.specs.Words.{Words}
+use Rattle.quotient.specs.Divisor.{HasDivisor}
+use Rattle.quotient.specs.Residue.{Residue}
+use Rattle.quotient.proofs.Evaluation.{evaluate}
+use Rattle.quotient.proofs.Field.{residueField, nonzeroResidues, nonzero-residues, nonzero-residues-length, power-of-nonzero}
+use Rattle.quotient.proofs.Frobenius.{frobenius-evaluate}
+use Rattle.quotient.proofs.Operations.{residue-discrete}
+use Rattle.quotient.proofs.Reduction.{characteristic, reduce, reduce-residue}
+use Rattle.quotient.proofs.Ring.{residueRing, xResidue}
+
+-- 2·p^k ≤ p^(n + 1)
+power-doubles : (p k n : ℕ) → 2 ≤ p → k ≤ n → p ^ k + p ^ k ≤ p ^ suc n
+power-doubles p k n big le =
+    let (r, e) = le-dest big in
+    let more : p ^ k ≤ p ^ n = pow-le-pow-right (omega arith) le in
+    let twice : p ^ n * (2 + r) ≡ p ^ suc n = ap (λ x. p ^ n * x) e ∙ sym (pow-suc p n) in
+    let spread : p ^ n * (2 + r) ≡ p ^ n + p ^ n + p ^ n * r = omega arith in
+    omega arith
+
+module _ {A : Type 0} (R : CommutativeRing A) (p : ℕ) where
+  -- x^(p^(j + k)) = (x^(p^j))^(p^k)
+  pub power-power : (x : A) (j k : ℕ) → power R x (p ^ (j + k)) ≡ power R (power R x (p ^ j)) (p ^ k)
+  power-power x j zero = ap (λ e. power R x (p ^ e)) (add-zero j) ∙ sym (ap (power R (power R x (p ^ j))) (pow-zero p) ∙ power-one R (power R x (p ^ j)))
+  power-power x j (suc k) =
+      let step : j + suc k ≡ suc (j + k) = omega arith in
+      ap (λ e. power R x (p ^ e)) step ∙ ap (power R x) (pow-suc p (j + k)) ∙ power-mul R x (p ^ (j + k)) p ∙ ap (λ y. power R y p) (power-power x j k)
+      ∙ sym (ap (power R (power R x (p ^ j))) (pow-suc p k) ∙ power-mul R (power R x (p ^ j)) (p ^ k) p)
+
+  module _ (x : A) (d : ℕ) (period : power R x (p ^ d) ≡ x) where
+    pub period-multiple : (k : ℕ) → power R x (p ^ (d * k)) ≡ x
+    period-multiple zero = ap (λ e. power R x (p ^ e)) (mul-zero d) ∙ ap (power R x) (pow-zero p) ∙ power-one R x
+    period-multiple (suc k) =
+        let step : d * suc k ≡ d * k + d = omega arith in
+        ap (λ e. power R x (p ^ e)) step ∙ power-power x (d * k) d ∙ ap (λ y. power R y (p ^ d)) (period-multiple k) ∙ period
+
+    -- a period that no smaller one goes before divides every other
+    pub period-divides : 0 < d → ((k : ℕ) → 0 < k → k < d → power R x (p ^ k) ≡ x → ⊥) → (n : ℕ) → power R x (p ^ n) ≡ x → n % d ≡ 0
+    period-divides pos least n e = by-remainder (ℕ-discrete (n % d) 0)
+      where
+        rest : power R x (p ^ (n % d)) ≡ x
+        rest =
+            ap (λ y. power R y (p ^ (n % d))) (sym (period-multiple (n / d))) ∙ sym (power-power x (d * (n / d)) (n % d))
+            ∙ ap (λ k. power R x (p ^ k)) (div-add-mod n d) ∙ e
+
+        by-remainder : Dec (n % d ≡ 0) → n % d ≡ 0
+        by-remainder (yes h) = h
+        by-remainder (no h) = absurd (least (n % d) (pos-of-ne-zero h) (mod-lt n pos) rest)
+
+module _ {p n : ℕ} {t : List ℕ} (prime : Prime p) (wt : Words p (suc n) t) where
+  abbrev K : CommutativeRing (Residue p (suc n))
+  K = residueRing (prime .0) wt
+
+  abbrev x : Residue p (suc n)
+  x = xResidue (prime .0) wt
+
+  -- f(a)^(p^k) = f(a^(p^k))
+  evaluate-power : (f : List ℕ) (a : Residue p (suc n)) (k : ℕ) → power K (evaluate K f a) (p ^ k) ≡ evaluate K f (power K a (p ^ k))
+  evaluate-power f a zero = ap (power K (evaluate K f a)) (pow-zero p) ∙ power-one K (evaluate K f a) ∙ sym (ap (evaluate K f) (ap (power K a) (pow-zero p) ∙ power-one K a))
+  evaluate-power f a (suc k) =
+      ap (power K (evaluate K f a)) (pow-suc p k) ∙ power-mul K (evaluate K f a) (p ^ k) p ∙ ap (λ y. power K y p) (evaluate-power f a k)
+      ∙ frobenius-evaluate K prime (characteristic (prime .0) wt) f (power K a (p ^ k))
+      ∙ ap (evaluate K f) (sym (ap (power K a) (pow-suc p k) ∙ power-mul K a (p ^ k) p))
+
+  -- X^(p^k) = X makes u^(p^k) = u for every residue u = u(X)
+  all-fixed : (k : ℕ) → power K x (p ^ k) ≡ x → (u : Residue p (suc n)) → power K u (p ^ k) ≡ u
+  unfolding reduce
+  all-fixed k e u =
+      let value : evaluate K (u .0) x ≡ u = reduce-residue (prime .0) wt u in
+      ap (λ v. power K v (p ^ k)) (sym value) ∙ evaluate-power (u .0) x k ∙ ap (evaluate K (u .0)) e ∙ value
+
+  module _ (irreducible : HasDivisor p t → ⊥) where
+    abbrev F : Field (Residue p (suc n))
+    F = residueField prime wt irreducible
+
+    size-positive : (k : ℕ) → suc (p ^ k - 1) ≡ p ^ k
+    size-positive k = omega (arith, one-le-pow k p (omega (arith, prime .0)))
+
+    -- u^(p^n) = u
+    pub power-of-size : (u : Residue p (suc n)) → power K u (p ^ suc n) ≡ u
+    power-of-size u = ap (power K u) (sym (size-positive (suc n))) ∙ by-zero (residue-discrete p (suc n) u (K .zero))
+      where
+        by-zero : Dec (u ≡ K .zero) → power K u (suc (p ^ suc n - 1)) ≡ u
+        by-zero (yes z) = ap (λ v. power K v (suc (p ^ suc n - 1))) z ∙ power-of-zero K (p ^ suc n - 1) ∙ sym z
+        by-zero (no h) = power-suc K u (p ^ suc n - 1) ∙ ap (K .mul u) (power-of-nonzero prime wt irreducible u h) ∙ K .mul-one u
+
+    -- u^(p^k − 1) = 1 for every u other than 0 would make p^n − 1 roots
+    pub no-lower-period : (k : ℕ) → 0 < k → k < suc n → power K x (p ^ k) ≡ x → ⊥
+    unfolding residueField
+    no-lower-period k pos less e = omega (arith, many, few, nonzero-residues-length prime wt irreducible, size-positive k, size-positive (suc n))
+      where
+        root : (u : Residue p (suc n)) → (u ≡ K .zero → ⊥) → power K u (p ^ k - 1) ≡ K .one
+        root u h =
+            mul-left-cancel F u (power K u (p ^ k - 1)) (K .one) h
+            (sym (power-suc K u (p ^ k - 1)) ∙ ap (power K u) (size-positive k) ∙ all-fixed k e u ∙ sym (K .mul-one u))
+
+        size : (j : ℕ) → 0 < j → 2 ≤ p ^ j
+        size zero h = absurd (omega arith)
+        size (suc j) h = omega (arith, power-doubles p 0 j (prime .0) (omega arith), pow-zero p)
+
+        few : length (nonzeroResidues prime wt irreducible) ≤ p ^ k - 1
+        few =
+            power-roots-at-most F (p ^ k - 1) (K .one) (nonzeroResidues prime wt irreducible) (omega (arith, size k pos)) (nonzero-residues prime wt irreducible .distinct)
+            (member-all _ (nonzeroResidues prime wt irreducible) (λ u m. root u (nonzero-residues prime wt irreducible .nonzero u m)))
+
+        many : p ^ k + p ^ k ≤ p ^ suc n
+        many = power-doubles p k n (prime .0) (omega arith)

@@ -1,0 +1,2 @@
+-- Rabin's criterion, and the call for one modulus.
+pub mod Rabin
