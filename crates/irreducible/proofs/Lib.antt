@@ -1,4 +1,5 @@
--- Rabin's criterion.
+-- Rabin's criterion, and the laws on which the proofs of the test rest.
 mod PrimeDivisor
 mod Period
-pub mod Rabin
+pub mod Conjugates
+pub mod Criterion

@@ -1,2 +1,3 @@
 -- Rabin's criterion, and the call for one modulus.
 pub mod Rabin
+pub mod Frobenius

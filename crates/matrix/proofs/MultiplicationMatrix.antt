@@ -59,7 +59,7 @@ module _ {p n : ℕ} {t : List ℕ} (big : 2 ≤ p) (wt : Words p n t) where
     multiple-words (suc k) = timesX-words big wt (multiple-words k)
 
     -- the word in row i of u·(X^k·S)
-    row-multiplies : {q : ℕ} {m : List ℕ} → Multiples p q t s m → (i : ℕ) → i < n → (u : List ℕ) (k : ℕ) → k + length u ≤ q
+    pub row-multiplies : {q : ℕ} {m : List ℕ} → Multiples p q t s m → (i : ℕ) → i < n → (u : List ℕ) (k : ℕ) → k + length u ≤ q
         → rowProduct m i k u % p ≡ getD (product p t u (multiple p t s k)) i 0
     unfolding rowProduct product multiple
     row-multiplies h i l [] k b =

@@ -3,7 +3,7 @@
 //   multiples   the matrix of u ↦ u·S, by which many powers are worked out
 //   product     the product of a matrix with a residue
 //   words       the product of a matrix with a list of words
-mod multiples;
+pub mod multiples;
 pub mod powers;
 pub mod product;
 pub mod words;

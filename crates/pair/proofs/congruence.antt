@@ -1,3 +1,2 @@
 -- The laws on which the proofs of `congruence` rest.
-mod Comparison
 mod TwoTests

@@ -2,47 +2,17 @@
 use matrix::powers::column;
 use matrix::powers::powers;
 use matrix::product::apply;
-use modular::word::add;
+use residue::compare::is_x;
+use residue::compare::opposite;
 use residue::ring::product;
-use residue::ring::residue_of_x;
 ghost use mathlib.Core.Path.{_≡_};
 ghost use Prim.Native.Nat.{_^_, _≤_};
-ghost use lib.ListN.{length, take};
+ghost use lib.ListN.{take};
 ghost use Rattle.algebra.specs.Lists.{equal};
-ghost use Rattle.quotient.specs.Residue.{constant, sum, residueOfX, modulusAt};
+ghost use Rattle.quotient.specs.Residue.{constant, modulusAt};
 ghost use Rattle.array.specs.Array.{Holds};
 ghost use Rattle.matrix.specs.Matrix.{Powers};
 ghost use Rattle.pair.specs.Pair.{accepts as acceptsPair};
-
-// Whether u = v.
-fn same(n: usize, u: &[u64; 16], v: &[u64; 16]) -> bool
-    requires { ⌜ (n ≤ 16) × (length (now u) ≡ 16) × (length (now v) ≡ 16) ⌝ }
-    ensures { λ r. ⌜ r ≡ equal (take n (now (u .entry))) (take n (now (v .entry))) ⌝ }
-{
-    let mut i = 0;
-    while i < n {
-        if u[i] != v[i] {
-            return false;
-        }
-        i += 1;
-    }
-    true
-}
-
-// Whether u + v = 0.
-fn opposite(p: u64, n: usize, u: &[u64; 16], v: &[u64; 16]) -> bool
-    requires { ⌜ (p ≤ 2 ^ 20) × (n ≤ 16) × Holds p n (now u) × Holds p n (now v) ⌝ }
-    ensures { λ r. ⌜ r ≡ equal (sum p (take n (now (u .entry))) (take n (now (v .entry)))) (constant n 0) ⌝ }
-{
-    let mut i = 0;
-    while i < n {
-        if add(p, u[i], v[i]) != 0 {
-            return false;
-        }
-        i += 1;
-    }
-    true
-}
 
 // Whether T1(S) = 0 modulo T, by the matrix of the powers of S: S^n is opposite to what the lower words of T1 give.
 fn is_root(p: u64, n: usize, t: &[u64; 16], s: &[u64; 16], m: &[u64; 256], t1: &[u64; 16]) -> bool
@@ -54,16 +24,6 @@ fn is_root(p: u64, n: usize, t: &[u64; 16], s: &[u64; 16], m: &[u64; 256], t1: &
     let top = product(p, n, t, s, &last);
     let rest = apply(p, n, m, t1);
     opposite(p, n, &top, &rest)
-}
-
-// Whether u = X modulo T.
-fn is_x(p: u64, n: usize, t: &[u64; 16], u: &[u64; 16]) -> bool
-    requires { ⌜ (2 ≤ p) × (p ≤ 2 ^ 20) × (1 ≤ n) × (n ≤ 16) ⌝ }
-    requires { ⌜ Holds p n (now t) × (length (now u) ≡ 16) ⌝ }
-    ensures { λ r. ⌜ r ≡ equal (take n (now (u .entry))) (residueOfX p (take n (now (t .entry)))) ⌝ }
-{
-    let x = residue_of_x(p, n, t);
-    same(n, u, &x)
 }
 
 // Whether the four congruences hold.

@@ -9,7 +9,7 @@ use borrow.Author.Tests.{not-true, not-false}
 use Rattle.algebra.specs.Lists.{equal}
 use Rattle.array.specs.Words.{Words}
 use Rattle.quotient.specs.Residue.{sum, constant, product, power, residueOfX, substitute, modulusAt}
-use Rattle.quotient.proofs.Operations.{power-words, substitute-words, residueOfX-words}
+use Rattle.quotient.proofs.Operations.{power-words, substitute-words}
 use Rattle.array.proofs.Words.{words-length}
 use Rattle.array.specs.Array.{padded, Holds}
 use Rattle.matrix.specs.Matrix.{Powers, column, matrixProduct}
@@ -79,12 +79,3 @@ module _ (p n : ℕ) (t s m : List ℕ) (h : Powers p n (take n t) (take n s) m)
     inverse-decides image c f e g =
         g ∙ ap (λ l. equal l (residueOfX p (take n t))) (image-front r image w e)
         ∙ ap (λ a. a && equal (substitute p (take n t) (take n s) (take n r)) (residueOfX p (take n t))) (sym (not-false b f)) ∙ tests
-
--- X modulo T
-
-module _ (p n : ℕ) (t x : List ℕ) (big : 2 ≤ p) (short : n ≤ 16) (h : Holds p n t) (e : x ≡ padded (residueOfX p (take n t))) where
-  pub x-length : length x ≡ 16
-  x-length = array-length n x short (holds-is e (residueOfX-words big (h .words)) .zeros)
-
-  pub x-decides : (u : List ℕ) (c : Bool) → c ≡ equal (take n u) (take n x) → c ≡ equal (take n u) (residueOfX p (take n t))
-  x-decides u c f = f ∙ ap (equal (take n u)) (front-is e (residueOfX-words big (h .words)))

@@ -2,9 +2,9 @@
 use borrow.Author.Needs.{needs}
 use Prim.Native.Nat.{_-_, _≤_}
 use lib.ListN.{take}
-use Rattle.pair.proofs.congruence.Comparison.{Left, same-starts, same-next, same-fails, left-none}
-use Rattle.pair.proofs.congruence.same.Statement.{statement}
-use Rattle.pair.proofs.congruence.same.Tie as tie
+use Rattle.residue.proofs.compare.Comparison.{Left, same-starts, same-next, same-fails, left-none}
+use Rattle.residue.proofs.compare.same.Statement.{statement}
+use Rattle.residue.proofs.compare.same.Tie as tie
 
 abbrev Inv-loop : tie.InvT-loop
 Inv-loop n u v i₀ i = (i ≤ n) × Left n (take n u) (take n v) i

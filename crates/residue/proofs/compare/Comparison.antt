@@ -1,7 +1,7 @@
 -- Two lists of n words compared word by word: after i words that agree, the words from i on decide.
 --   Left n xs ys i   both have n words, and whether they are equal is whether they are from i on
 use mathlib.Core.Path.{_≡_, refl, sym, ap, ap₂, _∙_}
-use mathlib.Core.Bool.{true, false, _&&_}
+use mathlib.Core.Bool.{Bool, true, false, _&&_}
 use mathlib.Core.List.{List}
 use Prim.Native.Nat.{ℕ, _+_, _%_, _≤_, _<_}
 use native.Mathlib.Numerals.{add-one}
@@ -11,10 +11,11 @@ use lib.ListN.{length, getD, take, drop, drop-of-length-le, getD-replicate}
 use lib.Seq.{drop-cons, getD-take, length-take-le}
 use borrow.Author.Tests.{eq-eqb, ne-eqb}
 use Rattle.algebra.specs.Lists.{equal}
-use Rattle.quotient.specs.Residue.{sum, constant}
-use Rattle.quotient.proofs.Operations.{sum-words, constant-zero, constant-length}
+use Rattle.quotient.specs.Residue.{sum, constant, residueOfX}
+use Rattle.quotient.proofs.Operations.{sum-words, constant-zero, constant-length, residueOfX-words}
 use Rattle.array.proofs.Words.{words-length}
-use Rattle.array.specs.Array.{Holds}
+use Rattle.array.specs.Array.{padded, Holds}
+use Rattle.array.proofs.Padded.{array-length, holds-is, front-is}
 use Rattle.quotient.proofs.SumOfPowers.{sum-word}
 
 pub record Left (n : ℕ) (xs ys : List ℕ) (i : ℕ) : Type 0 where
@@ -79,3 +80,12 @@ module _ (p n : ℕ) (u v : List ℕ) (x : Holds p n u) (y : Holds p n v) where
 
     pub opposite-fails : (a ≡ 0 → ⊥) → false ≡ equal (sum p (take n u) (take n v)) (constant n 0)
     opposite-fails z = left-fails n (sum p (take n u) (take n v)) (constant n 0) i h l (λ f. z (sym sum-at ∙ f ∙ zero-at))
+
+-- X modulo T
+
+module _ (p n : ℕ) (t x : List ℕ) (big : 2 ≤ p) (short : n ≤ 16) (h : Holds p n t) (e : x ≡ padded (residueOfX p (take n t))) where
+  pub x-length : length x ≡ 16
+  x-length = array-length n x short (holds-is e (residueOfX-words big (h .words)) .zeros)
+
+  pub x-decides : (u : List ℕ) (c : Bool) → c ≡ equal (take n u) (take n x) → c ≡ equal (take n u) (residueOfX p (take n t))
+  x-decides u c f = f ∙ ap (equal (take n u)) (front-is e (residueOfX-words big (h .words)))

@@ -1,8 +1,8 @@
 -- `is_x`: u is compared with the residue of X word by word.
 use borrow.Author.Needs.{needs}
-use Rattle.pair.proofs.congruence.TwoTests.{x-length, x-decides}
-use Rattle.pair.proofs.congruence.is_x.Statement.{statement}
-use Rattle.pair.proofs.congruence.is_x.Tie as tie
+use Rattle.residue.proofs.compare.Comparison.{x-length, x-decides}
+use Rattle.residue.proofs.compare.is_x.Statement.{statement}
+use Rattle.residue.proofs.compare.is_x.Tie as tie
 
 residue-of-x-requires : tie.Need-residue-of-x-requires
 residue-of-x-requires c κs = search needs

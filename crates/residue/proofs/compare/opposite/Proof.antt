@@ -4,9 +4,9 @@ use Prim.Native.Nat.{_-_, _≤_}
 use lib.ListN.{take}
 use Rattle.quotient.specs.Residue.{sum, constant}
 use Rattle.array.proofs.Padded.{holds-word}
-use Rattle.pair.proofs.congruence.Comparison.{Left, opposite-starts, opposite-next, opposite-fails, left-none}
-use Rattle.pair.proofs.congruence.opposite.Statement.{statement}
-use Rattle.pair.proofs.congruence.opposite.Tie as tie
+use Rattle.residue.proofs.compare.Comparison.{Left, opposite-starts, opposite-next, opposite-fails, left-none}
+use Rattle.residue.proofs.compare.opposite.Statement.{statement}
+use Rattle.residue.proofs.compare.opposite.Tie as tie
 
 abbrev Inv-loop : tie.InvT-loop
 Inv-loop p n u v i₀ i = (i ≤ n) × Left n (sum p (take n u) (take n v)) (constant n 0) i

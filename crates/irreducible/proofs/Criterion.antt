@@ -24,16 +24,9 @@ use Rattle.quotient.proofs.Ring.{residueRing, xResidue, power-is}
 use Rattle.quotient.proofs.Substitution.{Homomorphism, homomorphism-power, homomorphism-zero, evaluate-of-x}
 use Rattle.quotient.proofs.Units.{nonzero-invertible}
 use Rattle.irreducible.specs.Rabin.{conjugate, difference, HasInverse, Rabin, RabinsCriterion}
+use Rattle.irreducible.proofs.Conjugates.{conjugate-is, difference-is}
 use Rattle.irreducible.proofs.Period.{period-multiple, period-divides, power-of-size, no-lower-period}
 use Rattle.irreducible.proofs.PrimeDivisor.{prime-quotient}
-
--- (p − 1)·a = −a where p·1 = 0
-minus-is : {A : Type 0} (R : CommutativeRing A) (p : ℕ) → 1 ≤ p → numeral R p ≡ R .zero → (a : A) → R .mul (numeral R (p - 1)) a ≡ R .neg a
-minus-is R p pos vanishes a =
-    let whole : suc (p - 1) ≡ p = omega arith in
-    neg-unique R a (R .mul (numeral R (p - 1)) a)
-    (ap (λ b. R .add b (R .mul (numeral R (p - 1)) a)) (sym (one-mul R a)) ∙ sym (add-mul R (R .one) (numeral R (p - 1)) a)
-    ∙ ap (λ c. R .mul c a) (sym (numeral-suc R (p - 1)) ∙ ap (numeral R) whole ∙ vanishes) ∙ zero-mul R a)
 
 module _ {p n : ℕ} {t : List ℕ} (prime : Prime p) (wt : Words p (suc n) t) where
   abbrev K : CommutativeRing (Residue p (suc n))
@@ -42,33 +35,20 @@ module _ {p n : ℕ} {t : List ℕ} (prime : Prime p) (wt : Words p (suc n) t) w
   abbrev x : Residue p (suc n)
   x = xResidue (prime .0) wt
 
-  -- X^(p^k) and X^(p^k) − X in the ring
-  abbrev conjugateResidue : ℕ → Residue p (suc n)
-  conjugateResidue k = Ring.power K x (p ^ k)
-
+  -- X^(p^k) − X
   abbrev differenceResidue : ℕ → Residue p (suc n)
-  differenceResidue k = K .add (conjugateResidue k) (K .neg x)
-
-  pub conjugate-is : (k : ℕ) → conjugate p t k ≡ Ring.power K x (p ^ k) .0
-  unfolding conjugate xResidue
-  conjugate-is k = power-is (prime .0) wt (xResidue (prime .0) wt) (p ^ k)
-
-  difference-is : (k : ℕ) → difference p t k ≡ differenceResidue k .0
-  unfolding difference xResidue
-  difference-is k =
-      ap₂ (sum p) (conjugate-is k) (sym (scale-is (prime .0) wt (p - 1) x)) ∙ sym (add-is (prime .0) wt (Ring.power K x (p ^ k)) (K .mul (numeral K (p - 1)) x))
-      ∙ ap (λ v. K .add (Ring.power K x (p ^ k)) v .0) (minus-is K p (omega (arith, prime .0)) (characteristic (prime .0) wt) x)
+  differenceResidue k = K .add (Ring.power K x (p ^ k)) (K .neg x)
 
   -- on lists and in the ring
   inverse-of : (k : ℕ) (v : Residue p (suc n)) → K .mul (differenceResidue k) v ≡ K .one → HasInverse p t (difference p t k)
   inverse-of k v e =
       let size : length t ≡ suc n = words-length wt in
-      rw (size, difference-is k) (v .0, v .1, sym (mul-is (prime .0) wt (differenceResidue k) v) ∙ ap (λ w. w .0) e ∙ one-is (prime .0) wt)
+      rw (size, difference-is (prime .0) wt k) (v .0, v .1, sym (mul-is (prime .0) wt (differenceResidue k) v) ∙ ap (λ w. w .0) e ∙ one-is (prime .0) wt)
 
   of-inverse : (k : ℕ) → HasInverse p t (difference p t k) → (v : Residue p (suc n)) × (K .mul (differenceResidue k) v ≡ K .one)
   of-inverse k h =
       let size : length t ≡ suc n = words-length wt in
-      let (v, wv, e) = rw (size, difference-is k) at h in
+      let (v, wv, e) = rw (size, difference-is (prime .0) wt k) at h in
       ((v, wv), residue-path (mul-is (prime .0) wt (differenceResidue k) (v, wv) ∙ e ∙ sym (one-is (prime .0) wt)))
 
   -- T without proper divisors satisfies Rabin's conditions
@@ -76,7 +56,7 @@ module _ {p n : ℕ} {t : List ℕ} (prime : Prime p) (wt : Words p (suc n) t) w
   module _ (irreducible : HasDivisor p t → ⊥) where
     fixed-x : conjugate p t (suc n) ≡ residueOfX p t
     unfolding xResidue
-    fixed-x = conjugate-is (suc n) ∙ ap (λ u. u .0) (power-of-size prime wt irreducible x)
+    fixed-x = conjugate-is (prime .0) wt (suc n) ∙ ap (λ u. u .0) (power-of-size prime wt irreducible x)
 
     inverse-at : (k : ℕ) → 0 < k → k < suc n → HasInverse p t (difference p t k)
     inverse-at k pos less =
@@ -121,7 +101,7 @@ module _ {p n : ℕ} {t : List ℕ} (prime : Prime p) (wt : Words p (suc n) t) w
     fixed-image : (k : ℕ) → conjugate p t k ≡ residueOfX p t → Ring.power L y (p ^ k) ≡ y
     unfolding xResidue
     fixed-image k e =
-        let here : Ring.power K x (p ^ k) ≡ x = residue-path (sym (conjugate-is k) ∙ e) in
+        let here : Ring.power K x (p ^ k) ≡ x = residue-path (sym (conjugate-is (prime .0) wt k) ∙ e) in
         ap (λ u. Ring.power L u (p ^ k)) (sym image-of-x) ∙ sym (homomorphism-power preserves x (p ^ k)) ∙ ap φ here ∙ image-of-x
 
     -- where X^(p^k) = X modulo D, X^(p^k) − X has no inverse modulo T

@@ -1,0 +1,3 @@
+-- The laws on which the proofs of `conjugate` rest.
+mod Iteration
+mod Subtraction

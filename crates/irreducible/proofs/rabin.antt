@@ -1,0 +1,4 @@
+-- The laws on which the proofs of `rabin` rest.
+mod Primes
+mod Test
+mod Decision
