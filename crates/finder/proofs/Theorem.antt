@@ -17,12 +17,11 @@ use Rattle.pair.proofs.Theorem.{checker-theorem}
 use Rattle.quotient.specs.Divisor.{HasDivisor}
 use Rattle.quotient.specs.DivisorTest.{hasDivisor}
 use Rattle.refusal.proofs.Refusal.{sent-given}
-use Rattle.quotient.proofs.Decision.{test-has-divisor, has-divisor-test}
+use Rattle.quotient.proofs.Decision.{test-has-divisor, has-divisor-test, test-irreducible, irreducible-test}
 use Rattle.finder.specs.Finder.{Findable, refuseFind, findS, findR, findNumber, findOutputS, findOutputR}
 use Rattle.finder.specs.Theorem.{ChosenPair, Demand3Theorem}
 use Rattle.finder.proofs.Values.{PairLaws, pair-laws}
 use Rattle.finder.proofs.Findable.{findable-true, none-apply, find-models}
-use Rattle.galois.proofs.KernelDecides.{test-irreducible, irreducible-test}
 
 record Returned (p n : ℕ) (t1 t2 : List ℕ) : Type 0 where
   divides : Findable p n
@@ -48,8 +47,8 @@ module _ (p n : ℕ) (t1 t2 : List ℕ) (models : Models p n t1 t2) (lentS lentR
       let (divides, first, second) = none-apply p n t1 t2 h5 in
       record {
         divides = divides;
-        irreducible1 = test-irreducible p (models .prime) (models .modulus1) first;
-        irreducible2 = test-irreducible p (models .prime) (models .modulus2) second;
+        irreducible1 = test-irreducible (models .prime .0) (models .modulus1) first;
+        irreducible2 = test-irreducible (models .prime .0) (models .modulus2) second;
       }
 
   module _ (divides : Findable p n) (lengthS : length lentS ≡ n) (lengthR : length lentR ≡ n) where
@@ -57,10 +56,10 @@ module _ (p n : ℕ) (t1 t2 : List ℕ) (models : Models p n t1 t2) (lentS lentR
     decided = find-models p n t1 t2 models lentS lentR lengthS lengthR ∙ rw (findable-true p n divides)
 
     none1 : (HasDivisor p t1 → ⊥) → hasDivisor p t1 ≡ false
-    none1 = irreducible-test p (models .prime) (models .modulus1)
+    none1 = irreducible-test (models .prime .0) (models .modulus1)
 
     returns : (HasDivisor p t1 → ⊥) → (HasDivisor p t2 → ⊥) → findNumber p n t1 t2 lentS lentR ≡ 0
-    returns irreducible1 irreducible2 = decided ∙ rw (none1 irreducible1, irreducible-test p (models .prime) (models .modulus2) irreducible2)
+    returns irreducible1 irreducible2 = decided ∙ rw (none1 irreducible1, irreducible-test (models .prime .0) (models .modulus2) irreducible2)
 
     six : (findNumber p n t1 t2 lentS lentR ≡ 6) ↔ HasDivisor p t1
     six = (
@@ -72,7 +71,7 @@ module _ (p n : ℕ) (t1 t2 : List ℕ) (models : Models p n t1 t2) (lentS lentR
     seven = (
       λ h.
           let (first, second) = seven-says (hasDivisor p t1) (hasDivisor p t2) (sym decided ∙ h) in
-          (test-irreducible p (models .prime) (models .modulus1) first, test-has-divisor (models .prime .0) (models .modulus2) second),
+          (test-irreducible (models .prime .0) (models .modulus1) first, test-has-divisor (models .prime .0) (models .modulus2) second),
       λ d. decided ∙ rw (none1 (d .0), has-divisor-test (models .prime .0) (models .modulus2) (d .1)),
     )
 
@@ -93,7 +92,7 @@ module _ (p n : ℕ) (t1 t2 : List ℕ) (models : Models p n t1 t2) where
 pub accepted-pair : (p n : ℕ) (t1 t2 : List ℕ) → Models p n t1 t2 → refuseFind p n t1 t2 ≡ 0 → checkNumber p n t1 t2 (findS p n t1 t2) (findR p n t1 t2) ≡ 0
 accepted-pair p n t1 t2 models h =
     let (divides, first, second) = none-apply p n t1 t2 h in
-    found-accepted p n t1 t2 models divides (test-irreducible p (models .prime) (models .modulus1) first) (test-irreducible p (models .prime) (models .modulus2) second) .1
+    found-accepted p n t1 t2 models divides (test-irreducible (models .prime .0) (models .modulus1) first) (test-irreducible (models .prime .0) (models .modulus2) second) .1
 
 -- where the number is 0 the lent lists hold what is found
 module _ (p n : ℕ) (t1 t2 lentS lentR : List ℕ) (zero-number : findNumber p n t1 t2 lentS lentR ≡ 0) where

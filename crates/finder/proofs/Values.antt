@@ -7,6 +7,7 @@ use mathlib.Core.Bool.{false}
 use mathlib.Core.List.{List}
 use Prim.Native.Nat.{ℕ, zero, suc, _*_, _%_, _^_, _≤_, _<_}
 use native.Mathlib.Omega.{arith}
+use Rattle.quotient.proofs.Decision.{test-irreducible}
 use Rattle.algebra.specs.Prime.{Prime}
 use Rattle.quotient.specs.DivisorTest.{hasDivisor}
 use Rattle.array.specs.Words.{Words}
@@ -19,7 +20,6 @@ use Rattle.quotient.specs.Divisor.{HasDivisor}
 use Rattle.algebra.specs.Search.{Smallest}
 use Rattle.galois.specs.Express.{Independent}
 use Rattle.galois.proofs.Alpha.{alpha-kernel, alpha-constant}
-use Rattle.galois.proofs.KernelDecides.{test-irreducible}
 use Rattle.finder.proofs.ChosenPair.{root-of-ratio-found, chosen-words, chosen-independent, chosen-congruences, chosen-unique, found-chosen}
 
 pub record PairLaws (p n : ℕ) (t1 t2 : List ℕ) : Type 0 where
@@ -36,8 +36,8 @@ pair-laws p prime zero low high t1 t2 w1 w2 = absurd (omega arith)
 pair-laws p prime (suc n) low high t1 t2 w1 w2 =
     record {
       ratio-smallest = λ divides z below order e1 e2.
-          let i1 = test-irreducible p prime w1 e1 in
-          let i2 = test-irreducible p prime w2 e2 in
+          let i1 = test-irreducible (prime .0) w1 e1 in
+          let i2 = test-irreducible (prime .0) w2 e2 in
           root-of-ratio-found prime w1 w2 z order below divides (alpha-kernel prime w1 z order i1) (alpha-kernel prime w2 z order i2) _ _ (alpha-constant prime w1 z order i1) (alpha-constant prime w2 z order i2);
       chosen = λ divides. found-chosen prime high divides w1 w2;
       words = λ h. (chosen-words prime w1 w2 h, h .r-is .0);

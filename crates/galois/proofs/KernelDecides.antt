@@ -1,5 +1,4 @@
 -- Eigenvectors on lists, for every degree n ≥ 1: one vector v ≠ 0 with v^p = ζ·v modulo T decides whether T has a proper divisor, and gives α.
---   irreducible-test, test-irreducible   the test for divisors and what it decides
 --   EigenvectorLaws p n                  what holds in degree n: v^n is a constant exactly if T has no proper divisor (so 6 and 7 are decided); if only 0
 --                                        satisfies the equation, T has one; α is v divided by its first coefficient that is not zero, its
 --                                        powers are independent, and α^n is a constant other than 0
@@ -15,7 +14,7 @@ use Rattle.quotient.specs.Divisor.{HasDivisor}
 use Rattle.quotient.specs.DivisorTest.{hasDivisor}
 use Rattle.array.specs.Words.{Words}
 use Rattle.quotient.specs.Residue.{constant, power, scale}
-use Rattle.quotient.proofs.Decision.{test-has-divisor, has-divisor-test, has-divisor?}
+use Rattle.quotient.proofs.Decision.{has-divisor-test, has-divisor?, irreducible-test, test-irreducible}
 use Rattle.roots.specs.Roots.{OrderModulo}
 use Rattle.galois.specs.Eigenvector.{alpha, powerConstant}
 use Rattle.galois.specs.Express.{Independent}
@@ -25,14 +24,6 @@ use Rattle.galois.proofs.KernelVector.{KernelVector}
 use Rattle.galois.proofs.FirstNonZero.{normalised}
 use Rattle.galois.proofs.NoDivisor.{constant-positive, no-divisor}
 use Rattle.galois.proofs.ResidueConstants.{constant-is-word}
-
-module _ (p : ℕ) (prime : Prime p) where
-  -- the test decides
-  pub irreducible-test : {n : ℕ} {t : List ℕ} → Words p n t → (HasDivisor p t → ⊥) → hasDivisor p t ≡ false
-  irreducible-test {t = t} wt h = test-fails (hasDivisor p t) (λ e. h (test-has-divisor (prime .0) wt e))
-
-  pub test-irreducible : {n : ℕ} {t : List ℕ} → Words p n t → hasDivisor p t ≡ false → HasDivisor p t → ⊥
-  test-irreducible wt e h = true≢false (sym (has-divisor-test (prime .0) wt h) ∙ e)
 
 pub record EigenvectorLaws (p n : ℕ) : Type 0 where
   pub kernel-decides : (t : List ℕ) → Words p n t → (z : ℕ) → OrderModulo p n z → (v : List ℕ) → KernelVector p n t z v
@@ -55,7 +46,7 @@ module _ (p : ℕ) (prime : Prime p) (n : ℕ) (t : List ℕ) (wt : Words p (suc
       ∙ sym (ap not (test-fails (equal (power p t v (suc n)) (constant (suc n) a)) (λ e. no-divisor prime wt z order kernel a (of-equal (power p t v (suc n)) (constant (suc n) a) e) h)))
   by-power v kernel (no h) =
       let (b, pos, below, e) = power-is-constant prime wt h z order kernel in
-      irreducible-test p prime wt h ∙ sym (ap not (equal-of (e ∙ ap (constant (suc n)) (sym (power-constant-is prime wt v b e)))))
+      irreducible-test (prime .0) wt h ∙ sym (ap not (equal-of (e ∙ ap (constant (suc n)) (sym (power-constant-is prime wt v b e)))))
 
   by-kernel : ((v : List ℕ) → Words p (suc n) v → power p t v p ≡ scale p z v → v ≡ constant (suc n) 0) → Dec (HasDivisor p t) → hasDivisor p t ≡ true
   by-kernel trivial (yes h) = has-divisor-test (prime .0) wt h
@@ -77,8 +68,8 @@ eigenvector-laws p prime (suc n) low =
     record {
       kernel-decides = λ t wt z order v kernel. by-power p prime n t wt z order v kernel (has-divisor? (prime .0) wt);
       trivial-kernel-decides = λ t wt z order trivial. by-kernel p prime n t wt z order trivial (has-divisor? (prime .0) wt);
-      alpha-of-kernel = λ t wt z order e v kernel. alpha-normalised prime wt z order (test-irreducible p prime wt e) kernel;
-      alpha-words = λ t wt z order e. alpha-kernel prime wt z order (test-irreducible p prime wt e) .words;
-      alpha-powers = λ t wt z order e. alpha-independent prime wt z order (test-irreducible p prime wt e);
-      alpha-power = λ t wt z order e. alpha-positive p prime n t wt z order (test-irreducible p prime wt e);
+      alpha-of-kernel = λ t wt z order e v kernel. alpha-normalised prime wt z order (test-irreducible (prime .0) wt e) kernel;
+      alpha-words = λ t wt z order e. alpha-kernel prime wt z order (test-irreducible (prime .0) wt e) .words;
+      alpha-powers = λ t wt z order e. alpha-independent prime wt z order (test-irreducible (prime .0) wt e);
+      alpha-power = λ t wt z order e. alpha-positive p prime n t wt z order (test-irreducible (prime .0) wt e);
     }

@@ -23,7 +23,7 @@ use Rattle.quotient.proofs.Reduction.{characteristic, reduce, add-is, mul-is, s
 use Rattle.quotient.proofs.Ring.{residueRing, xResidue, power-is}
 use Rattle.quotient.proofs.Substitution.{Homomorphism, homomorphism-power, homomorphism-zero, evaluate-of-x}
 use Rattle.quotient.proofs.Units.{nonzero-invertible}
-use Rattle.irreducible.specs.Rabin.{conjugate, difference, HasInverse, Rabin, RabinsCriterion}
+use Rattle.irreducible.specs.Rabin.{conjugate, difference, HasInverse, Rabin}
 use Rattle.irreducible.proofs.Conjugates.{conjugate-is, difference-is}
 use Rattle.irreducible.proofs.Period.{period-multiple, period-divides, power-of-size, no-lower-period}
 use Rattle.irreducible.proofs.PrimeDivisor.{prime-quotient}
@@ -135,6 +135,3 @@ module _ {p n : ℕ} {t : List ℕ} (prime : Prime p) (wt : Words p (suc n) t) w
   rabin-irreducible rabin (suc i, low, high, d, wd, h) =
       let (m, d', le, wd', h', irreducible) = irreducible-divisor p i d (prime .0) wd in
       contradiction wd' (divides-transitive (prime .0) wd' d t h' h) irreducible (omega (arith, words-length wt)) rabin
-
-pub rabins-criterion : RabinsCriterion
-rabins-criterion p n t prime wt = (irreducible-rabin prime wt, rabin-irreducible prime wt)

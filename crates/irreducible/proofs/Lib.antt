@@ -1,5 +1,8 @@
--- Rabin's criterion, and the laws on which the proofs of the test rest.
+-- Rabin's criterion, moduli of fields, and the laws on which the proofs of the functions rest.
 mod PrimeDivisor
 mod Period
-pub mod Conjugates
-pub mod Criterion
+mod Conjugates
+mod Criterion
+mod FieldModulus
+mod OneModulus
+pub mod Theorem

@@ -1,3 +1,4 @@
--- Rabin's criterion, and the call for one modulus.
+-- Rabin's criterion, moduli of fields, and the call for one modulus.
 pub mod Rabin
 pub mod Frobenius
+pub mod Irreducible

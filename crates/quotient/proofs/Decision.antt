@@ -2,6 +2,7 @@
 -- and the list of residues has the lower words of every D.
 --   test-has-divisor, has-divisor-test   the two halves of "the test is exact"
 --   has-divisor?                         so there is a divisor, or there is none
+--   irreducible-test, test-irreducible   there is none exactly where the test fails
 use mathlib.Core.Path.{_≡_, refl, sym, ap, ap₂, _∙_}
 use mathlib.Core.Bool.{Bool, true, false, not, true≢false}
 use mathlib.Core.List.{List, [], _∷_}
@@ -96,3 +97,14 @@ module _ {p n : ℕ} {t : List ℕ} (big : 2 ≤ p) (wt : Words p n t) where
       by-value : (b : Bool) → hasDivisor p t ≡ b → Dec (HasDivisor p t)
       by-value true e = yes (test-has-divisor e)
       by-value false e = no (λ h. true≢false (sym (has-divisor-test h) ∙ e))
+
+  -- there is none exactly where the test fails
+  pub irreducible-test : (HasDivisor p t → ⊥) → hasDivisor p t ≡ false
+  irreducible-test h = by-value (hasDivisor p t) refl
+    where
+      by-value : (b : Bool) → hasDivisor p t ≡ b → hasDivisor p t ≡ false
+      by-value true e = absurd (h (test-has-divisor e))
+      by-value false e = e
+
+  pub test-irreducible : hasDivisor p t ≡ false → HasDivisor p t → ⊥
+  test-irreducible e h = true≢false (sym (has-divisor-test h) ∙ e)

@@ -7,6 +7,7 @@ use Prim.Native.Nat.{ℕ, _-_, _%_, _^_, _≤_, _<_}
 use native.Mathlib.Omega.{arith}
 use lib.ListN.{take}
 use borrow.Author.Tests.{not-false}
+use Rattle.quotient.proofs.Decision.{test-irreducible}
 use Rattle.algebra.specs.Prime.{Prime}
 use Rattle.refusal.specs.Refusal.{refuse}
 use Rattle.quotient.specs.DivisorTest.{hasDivisor}
@@ -22,7 +23,7 @@ use Rattle.galois.specs.Express.{express, Independent}
 use Rattle.finder.specs.Finder.{findS, findR, refuseFind}
 use Rattle.frobenius.specs.Kernel.{AlphaFound}
 use Rattle.galois.proofs.Express.{express-is}
-use Rattle.galois.proofs.KernelDecides.{test-irreducible, EigenvectorLaws, eigenvector-laws}
+use Rattle.galois.proofs.KernelDecides.{EigenvectorLaws, eigenvector-laws}
 use Rattle.finder.proofs.Findable.{findable-true, findable-false}
 use Rattle.finder.proofs.Values.{PairLaws, pair-laws}
 use Rattle.roots.proofs.Zeta as Zeta
@@ -154,7 +155,7 @@ module _ (p n z : ℕ) (t1 t2 : List ℕ) (h : Admissible p n) (h1 : Holds p n t
   independent : Words p n (findS p n (take n t1) (take n t2)) × Independent p n (take n t2) (findS p n (take n t1) (take n t2))
   independent =
       let laws : PairLaws p n (take n t1) (take n t2) = pair-laws p (h .prime) n (h .low) (h .high) (take n t1) (take n t2) (h1 .words) (h2 .words) in
-      let chosen = laws .chosen (h .divides) (test-irreducible p (h .prime) (h1 .words) (divisor-of answer1)) (test-irreducible p (h .prime) (h2 .words) (divisor-of answer2)) in
+      let chosen = laws .chosen (h .divides) (test-irreducible (h .prime .0) (h1 .words) (divisor-of answer1)) (test-irreducible (h .prime .0) (h2 .words) (divisor-of answer2)) in
       (laws .words chosen .0, laws .independent chosen)
 
   pub forward-holds : Holds p n s

@@ -4,6 +4,7 @@ use mathlib.Core.List.{List, [], _∷_}
 use Prim.Native.Nat.{ℕ, _^_, _≤_}
 use native.Mathlib.Omega.{arith}
 use lib.ListN.{length, take}
+use Rattle.quotient.proofs.Decision.{test-irreducible}
 use Rattle.refusal.specs.Refusal.{refuseSent, written}
 use Rattle.array.specs.Words.{Words, wordBound}
 use Rattle.refusal.proofs.Refusal.{Sent, sent-given, given-sent, sent-stays}
@@ -15,7 +16,6 @@ use Rattle.array.proofs.Padded.{front-is, holds-is}
 use Rattle.finder.specs.Construct.{FoundPair}
 use Rattle.finder.specs.Finder.{findS, findR, refuseFind, findNumber, findOutputS, findOutputR}
 use Rattle.refusal.specs.Models.{Models}
-use Rattle.galois.proofs.KernelDecides.{test-irreducible}
 use Rattle.finder.proofs.Findable.{none-apply}
 use Rattle.finder.proofs.Values.{PairLaws, pair-laws}
 
@@ -53,7 +53,7 @@ module _ (p n : ℕ) (t1 t2 : List ℕ) (m : Models p n t1 t2) where
       words =
           let (divides, first, second) = none-apply p n t1 t2 (sym (found .number-is) ∙ zero-is) in
           let laws : PairLaws p n t1 t2 = pair-laws p (m .prime) n (m .degree .0) (m .degree .1) t1 t2 (m .modulus1) (m .modulus2) in
-          laws .words (laws .chosen divides (test-irreducible p (m .prime) (m .modulus1) first) (test-irreducible p (m .prime) (m .modulus2) second))
+          laws .words (laws .chosen divides (test-irreducible (m .prime .0) (m .modulus1) first) (test-irreducible (m .prime .0) (m .modulus2) second))
 
       module _ (out : List ℕ) (size : length out ≡ n) where
         stores : (u w : List ℕ) → w ≡ padded u → Words p n u → Holds wordBound (length out) w

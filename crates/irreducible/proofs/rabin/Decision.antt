@@ -1,6 +1,6 @@
 -- The parts of Rabin's test together decide whether T has a divisor of degree 1 to n − 1: Rabin's criterion, where the primes up to 16 are enough.
 use mathlib.Core.Path.{_≡_, refl, sym, ap, subst, _∙_}
-use mathlib.Core.Bool.{Bool, true, false, not, true≢false, false≢true}
+use mathlib.Core.Bool.{Bool, true, false, not, false≢true}
 use mathlib.Core.List.{List}
 use Prim.Native.Nat.{ℕ, zero, suc, _/_, _%_, _≤_}
 use native.Mathlib.Omega.{arith}
@@ -17,7 +17,7 @@ use Rattle.array.proofs.Words.{words-length}
 use Rattle.quotient.specs.Divisor.{HasDivisor}
 use Rattle.quotient.specs.DivisorTest.{hasDivisor}
 use Rattle.quotient.specs.Residue.{residueOfX}
-use Rattle.quotient.proofs.Decision.{has-divisor-test, test-has-divisor}
+use Rattle.quotient.proofs.Decision.{test-has-divisor, test-irreducible}
 use Rattle.irreducible.specs.Rabin.{conjugate, difference, HasInverse, Rabin}
 use Rattle.irreducible.specs.Frobenius.{Passes}
 use Rattle.irreducible.proofs.Criterion.{irreducible-rabin, rabin-irreducible}
@@ -51,7 +51,7 @@ module _ (p n : ℕ) (t : List ℕ) (prime : Prime p) (some : 1 ≤ n) (short : 
       by-test : (c : Bool) → hasDivisor p T ≡ c → false ≡ not (hasDivisor p T)
       by-test true g = sym (ap not g)
       by-test false g =
-          let rabin : Rabin p T = rabin-of (ht .words) (λ h. true≢false (sym (has-divisor-test (prime .0) (ht .words) h) ∙ g)) in
+          let rabin : Rabin p T = rabin-of (ht .words) (test-irreducible (prime .0) (ht .words) g) in
           let fixed : conjugate p T n ≡ residueOfX p T = ap (conjugate p T) (sym size) ∙ rabin .fixed in
           absurd (false≢true (sym (not-true b f) ∙ e ∙ equal-of fixed))
 
@@ -83,4 +83,4 @@ module _ (p n : ℕ) (t : List ℕ) (prime : Prime p) (some : 1 ≤ n) (short : 
         by-test : (c : Bool) → hasDivisor p T ≡ c → false ≡ not (hasDivisor p T)
         by-test true g = sym (ap not g)
         by-test false g =
-            absurd (d .if-false refl (passes-rabin (rabin-of (ht .words) (λ h. true≢false (sym (has-divisor-test (prime .0) (ht .words) h) ∙ g)))))
+            absurd (d .if-false refl (passes-rabin (rabin-of (ht .words) (test-irreducible (prime .0) (ht .words) g))))
