@@ -2,7 +2,7 @@
 use mathlib.Core.Path.{_≡_, refl, sym, ap, _∙_}
 use mathlib.Core.Bool.{Bool, true, false, not}
 use mathlib.Core.List.{List, [], _∷_}
-use Prim.Native.Nat.{ℕ, _^_, _≤_}
+use Prim.Native.Nat.{ℕ, _^_, _≤_, _<_}
 use native.Mathlib.Omega.{arith}
 use lib.ListN.{length, take}
 use Rattle.array.specs.Words.{Words}
@@ -13,7 +13,11 @@ use Rattle.refusal.proofs.TwoModels.{models-sent, sent-models}
 use Rattle.array.proofs.Words.{words-length}
 use Rattle.array.specs.Array.{padded, Holds}
 use Rattle.array.proofs.Padded.{holds-is, front-is}
-use Rattle.pair.specs.Pair.{accepts, checkNumber, checkNumberOr}
+use Rattle.irreducible.specs.Irreducible.{Model}
+use Rattle.quotient.specs.DivisorTest.{hasDivisor}
+use borrow.Author.Tests.{not-true, not-false}
+use Rattle.pair.specs.Pair.{accepts, refusePair, checkNumber, checkNumberOr}
+use Rattle.pair.proofs.Fields.{second-none}
 use Rattle.pair.specs.Theorem.{Given}
 
 -- what 1 to 4 leave
@@ -56,29 +60,55 @@ module _ (p n number : ℕ) (t1 t2 s r : List ℕ) (e : number ≡ refuseSent p 
     pub check-given : Given p n t1 t2 s r
     check-given = given p n t1 t2 s r sent
 
-    module _ (b : Bool) (f : b ≡ accepts p t1 t2 s r) where
-      decided : checkNumber p n t1 t2 s r ≡ refuse 8 (not b) 0
-      unfolding checkNumberOr
-      decided = given-sent p n (t1 ∷ t2 ∷ s ∷ r ∷ []) (t1 ∷ t2 ∷ s ∷ r ∷ []) _ sent ∙ ap (λ x. refuse 8 (not x) 0) (sym f)
+    pub check-judged : (k : ℕ) → k ≡ refusePair p t1 t2 s r → k ≡ checkNumber p n t1 t2 s r
+    unfolding checkNumberOr
+    check-judged k f = f ∙ sym (given-sent p n (t1 ∷ t2 ∷ s ∷ r ∷ []) (t1 ∷ t2 ∷ s ∷ r ∷ []) _ sent)
 
-      pub check-accepted : b ≡ true → 0 ≡ checkNumber p n t1 t2 s r
-      check-accepted g = sym (decided ∙ ap (λ x. refuse 8 (not x) 0) g)
+-- after 1 to 4: the tests of the moduli and of the congruences
 
-      pub check-eight : b ≡ false → 8 ≡ checkNumber p n t1 t2 s r
-      check-eight g = sym (decided ∙ ap (λ x. refuse 8 (not x) 0) g)
+module _ (p n : ℕ) (t1 t2 s r : List ℕ) (g : Given p n t1 t2 s r) where
+  pub model-1 : Model p n t1
+  model-1 = record { prime = g .models .prime; small = g .models .small; degree = g .models .degree; modulus = g .models .modulus1 }
+
+  pub model-2 : Model p n t2
+  model-2 = record { prime = g .models .prime; small = g .models .small; degree = g .models .degree; modulus = g .models .modulus2 }
+
+  module _ (a : Bool) (e : a ≡ not (hasDivisor p t1)) where
+    pub judge-six : not a ≡ true → 6 ≡ refusePair p t1 t2 s r
+    judge-six f = rw (not-false (hasDivisor p t1) (sym e ∙ not-true a f))
+
+    module _ (f : not a ≡ false) where
+      first-none : hasDivisor p t1 ≡ false
+      first-none = not-true (hasDivisor p t1) (sym e ∙ not-false a f)
+
+      module _ (b : Bool) (h : b ≡ accepts p t1 t2 s r) where
+        pub judge-accepted : b ≡ true → 0 ≡ refusePair p t1 t2 s r
+        judge-accepted k = rw (first-none, second-none p n t1 t2 s r g (sym h ∙ k) first-none, ← h, k)
+
+        module _ (c : Bool) (l : c ≡ not (hasDivisor p t2)) (k : b ≡ false) where
+          pub judge-eight : c ≡ true → 8 ≡ refusePair p t1 t2 s r
+          judge-eight m = rw (first-none, not-true (hasDivisor p t2) (sym l ∙ m), ← h, k)
+
+          pub judge-seven : c ≡ false → 7 ≡ refusePair p t1 t2 s r
+          judge-seven m = rw (first-none, not-false (hasDivisor p t2) (sym l ∙ m))
 
 -- an output list of the wrong length: 1 and 2 stay, and 3 takes the place of what comes after them
 
-module _ (number : ℕ) where
-  by-first : (a b c d e : Bool) → number ≡ refuse 1 a (refuse 2 b (refuse 3 c (refuse 4 d (refuse 8 e 0))))
-      → (number ≡ 1 → 1 ≡ refuse 1 a (refuse 2 b 3)) × (number ≡ 2 → 2 ≡ refuse 1 a (refuse 2 b 3))
-      × ((number ≡ 1 → ⊥) → (number ≡ 2 → ⊥) → 3 ≡ refuse 1 a (refuse 2 b 3))
-  by-first true b c d e f = (λ g. refl, λ g. absurd (omega arith), λ g h. absurd (g f))
-  by-first false true c d e f = (λ g. absurd (omega arith), λ g. refl, λ g h. absurd (h f))
-  by-first false false true d e f = (λ g. absurd (omega arith), λ g. absurd (omega arith), λ g h. refl)
-  by-first false false false true e f = (λ g. absurd (omega arith), λ g. absurd (omega arith), λ g h. refl)
-  by-first false false false false true f = (λ g. absurd (omega arith), λ g. absurd (omega arith), λ g h. refl)
-  by-first false false false false false f = (λ g. absurd (omega arith), λ g. absurd (omega arith), λ g h. refl)
+by-first : (number rest : ℕ) → (rest ≡ 1 → ⊥) → (rest ≡ 2 → ⊥) → (a b c d : Bool) → number ≡ refuse 1 a (refuse 2 b (refuse 3 c (refuse 4 d rest)))
+    → (number ≡ 1 → 1 ≡ refuse 1 a (refuse 2 b 3)) × (number ≡ 2 → 2 ≡ refuse 1 a (refuse 2 b 3))
+    × ((number ≡ 1 → ⊥) → (number ≡ 2 → ⊥) → 3 ≡ refuse 1 a (refuse 2 b 3))
+by-first number rest h k true b c d f = (λ g. refl, λ g. absurd (omega arith), λ g l. absurd (g f))
+by-first number rest h k false true c d f = (λ g. absurd (omega arith), λ g. refl, λ g l. absurd (l f))
+by-first number rest h k false false true d f = (λ g. absurd (omega arith), λ g. absurd (omega arith), λ g l. refl)
+by-first number rest h k false false false true f = (λ g. absurd (omega arith), λ g. absurd (omega arith), λ g l. refl)
+by-first number rest h k false false false false f = (λ g. absurd (h (sym f ∙ g)), λ g. absurd (k (sym f ∙ g)), λ g l. refl)
+
+-- what comes after 4 is neither 1 nor 2
+after-four : (a b c : Bool) (k : ℕ) → 0 < k → k < 6 → refuse 6 a (refuse 7 b (refuse 8 c 0)) ≡ k → ⊥
+after-four true b c k low high e = omega arith
+after-four false true c k low high e = omega arith
+after-four false false true k low high e = omega arith
+after-four false false false k low high e = omega arith
 
 module _ (p n number : ℕ) (t1 t2 s r : List ℕ) (exact : Bool) (e : number ≡ checkNumber p n t1 t2 s r) where
   pub exact-stays : exact ≡ true → number ≡ checkNumberOr (not exact) p n t1 t2 s r
@@ -88,7 +118,10 @@ module _ (p n number : ℕ) (t1 t2 s r : List ℕ) (exact : Bool) (e : number �
     wrong : (number ≡ 1 → 1 ≡ checkNumberOr true p n t1 t2 s r) × (number ≡ 2 → 2 ≡ checkNumberOr true p n t1 t2 s r)
         × ((number ≡ 1 → ⊥) → (number ≡ 2 → ⊥) → 3 ≡ checkNumberOr true p n t1 t2 s r)
     unfolding checkNumberOr
-    wrong = by-first number (badPrime p) (badDegree n) (badLength n (t1 ∷ t2 ∷ s ∷ r ∷ [])) (badWord p (t1 ∷ t2 ∷ s ∷ r ∷ [])) (not (accepts p t1 t2 s r)) e
+    wrong =
+        let after : (k : ℕ) → 0 < k → k < 6 → refusePair p t1 t2 s r ≡ k → ⊥ = after-four (hasDivisor p t1) (hasDivisor p t2) (not (accepts p t1 t2 s r)) in
+        by-first number (refusePair p t1 t2 s r) (after 1 (omega arith) (omega arith)) (after 2 (omega arith) (omega arith))
+        (badPrime p) (badDegree n) (badLength n (t1 ∷ t2 ∷ s ∷ r ∷ [])) (badWord p (t1 ∷ t2 ∷ s ∷ r ∷ [])) e
 
     pub wrong-one : number ≡ 1 → 1 ≡ checkNumberOr (not exact) p n t1 t2 s r
     wrong-one g = rw f (wrong .0 g)

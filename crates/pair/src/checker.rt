@@ -2,6 +2,7 @@
 use crate::congruence::accepts;
 use array::Word;
 use array::copy::load;
+use irreducible::call::is_field;
 use modular::prime::is_prime;
 use refusal::sent::has_length;
 use refusal::sent::has_words;
@@ -11,7 +12,7 @@ ghost use mathlib.Core.Bool.{not};
 ghost use mathlib.Core.Path.{_≡_};
 ghost use mathlib.Core.List.{[], _∷_};
 ghost use Rattle.refusal.specs.Refusal.{refuseSent};
-ghost use Rattle.pair.specs.Pair.{accepts as acceptsPair, checkNumber, checkNumberOr};
+ghost use Rattle.pair.specs.Pair.{accepts as acceptsPair, refusePair, checkNumber, checkNumberOr};
 ghost use Rattle.pair.specs.Theorem.{Given};
 
 // The number of the first refusal from 1 to 4 that applies, 0 where none does.
@@ -32,8 +33,15 @@ fn refusal(p: u32, n: u32, t1: &[Word], t2: &[Word], s: &[Word], r: &[Word]) -> 
     number(is_prime(p), is_degree(n), lengths, words)
 }
 
-// Whether the four congruences hold, for lists to which no other refusal applies.
-fn accepted(p: u32, n: u32, t1: &[Word], t2: &[Word], s: &[Word], r: &[Word]) -> bool
+// Whether the four congruences hold, for lists to which 1 to 4 do not apply.
+pub fn congruences_hold(
+    p: u32,
+    n: u32,
+    t1: &[Word],
+    t2: &[Word],
+    s: &[Word],
+    r: &[Word],
+) -> bool
     requires { ⌜ Given p n (now t1) (now t2) (now s) (now r) ⌝ }
     ensures { λ b. ⌜ b ≡ acceptsPair p (now (t1 .entry)) (now (t2 .entry)) (now (s .entry)) (now (r .entry)) ⌝ }
 {
@@ -47,7 +55,23 @@ fn accepted(p: u32, n: u32, t1: &[Word], t2: &[Word], s: &[Word], r: &[Word]) ->
     )
 }
 
-// 0 where the four congruences hold, and then the two maps are inverse isomorphisms; else the number of the first refusal that applies.
+// 6, 7, 8 or 0, for lists to which 1 to 4 do not apply. Where the congruences hold, T2 has a proper divisor only if T1 has one: T2 is tested only to
+// tell 7 from 8.
+fn judge(p: u32, n: u32, t1: &[Word], t2: &[Word], s: &[Word], r: &[Word]) -> u32
+    requires { ⌜ Given p n (now t1) (now t2) (now s) (now r) ⌝ }
+    ensures { λ number. ⌜ number ≡ refusePair p (now (t1 .entry)) (now (t2 .entry)) (now (s .entry)) (now (r .entry)) ⌝ }
+{
+    if !is_field(p, n, t1) {
+        return 6;
+    }
+    if congruences_hold(p, n, t1, t2, s, r) {
+        return 0;
+    }
+    if is_field(p, n, t2) { 8 } else { 7 }
+}
+
+// 0 where neither modulus has a monic divisor of degree 1 to n − 1 and the four congruences hold, and then the two maps are inverse isomorphisms of fields;
+// else the number of the first refusal that applies.
 pub fn check(p: u32, n: u32, t1: &[Word], t2: &[Word], s: &[Word], r: &[Word]) -> u32
     ensures { λ number. ⌜ number ≡ checkNumber p n (now (t1 .entry)) (now (t2 .entry)) (now (s .entry)) (now (r .entry)) ⌝ }
 {
@@ -55,7 +79,7 @@ pub fn check(p: u32, n: u32, t1: &[Word], t2: &[Word], s: &[Word], r: &[Word]) -
     if number != 0 {
         return number;
     }
-    if accepted(p, n, t1, t2, s, r) { 0 } else { 8 }
+    judge(p, n, t1, t2, s, r)
 }
 
 // The same for a call that also writes a list: 3 also where that list has not its exact length.

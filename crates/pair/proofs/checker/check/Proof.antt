@@ -1,8 +1,8 @@
--- `check`: a number of 1 to 4, or what the congruences decide.
+-- `check`: a number of 1 to 4, or what comes after them.
 use borrow.Author.Needs.{needs}
-use Rattle.pair.proofs.Refusals.{check-refused, check-given, check-accepted, check-eight}
 use Rattle.pair.proofs.checker.check.Statement.{statement}
 use Rattle.pair.proofs.checker.check.Tie as tie
+use Rattle.pair.proofs.Refusals.{check-refused, check-given, check-judged}
 
 refusal-requires : tie.Need-refusal-requires
 refusal-requires c κs = search needs
@@ -10,14 +10,11 @@ refusal-requires c κs = search needs
 returns : tie.Need-returns
 returns c = search check-refused
 
-accepted-requires : tie.Need-accepted-requires
-accepted-requires c κs = search check-given
+judge-requires : tie.Need-judge-requires
+judge-requires c κs = search check-given
 
 returns-2 : tie.Need-returns-2
-returns-2 c = search check-accepted
-
-returns-3 : tie.Need-returns-3
-returns-3 c = search check-eight
+returns-2 c = search check-judged
 
 pub check-spec : {M : Type 1} → statement M
-check-spec = tie.close (tie.spec refusal-requires returns accepted-requires returns-2 returns-3)
+check-spec = tie.close (tie.spec refusal-requires returns judge-requires returns-2)

@@ -1,7 +1,7 @@
--- `accepted`: the arrays hold the lists.
+-- `congruences_hold`: the arrays hold the lists.
 use Rattle.pair.proofs.Refusals.{short-1, short-2, short-s, short-r, in-range, holds-1, holds-2, holds-s, holds-r, arrays-accepted}
-use Rattle.pair.proofs.checker.accepted.Statement.{statement}
-use Rattle.pair.proofs.checker.accepted.Tie as tie
+use Rattle.pair.proofs.checker.congruences_hold.Statement.{statement}
+use Rattle.pair.proofs.checker.congruences_hold.Tie as tie
 
 load-requires : tie.Need-load-requires
 load-requires c κs = search (short-1, short-2, short-s, short-r)
@@ -21,8 +21,8 @@ accepts-requires c κs = (search in-range, (search (holds-1, holds-2, holds-s, h
 returns : tie.Need-returns
 returns c = search arrays-accepted
 
-pub accepted-spec : {M : Type 1} → statement M
-accepted-spec =
+pub congruences-hold-spec : {M : Type 1} → statement M
+congruences-hold-spec =
     tie.close
     (tie.spec
     load-requires
