@@ -1,4 +1,4 @@
--- The three lines (ThreeLines), the pair card of a job (Parts, JobWords, Writable, PairCard), what is printed where a number decides (Printed), and
+-- The lines (OneLine), the pair card of a job (Parts, JobWords, Writable, PairCard), what is printed where a number decides (Printed), and
 -- what is printed for a card (CardModels, CardAnswers, LongInput).
 mod Parts
 mod Writable

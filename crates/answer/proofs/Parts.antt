@@ -5,6 +5,7 @@ use Prim.Native.Nat.{ℕ, _+_, _-_, _*_, _≤_}
 use native.Mathlib.Omega.{arith}
 use lib.ListN.{length, take, drop, length-take, length-drop}
 use lib.Seq.{length-take-le, take-append-le, drop-append-le, take-add}
+use Rattle.pair.specs.Theorem.{Given}
 use Rattle.array.specs.Words.{Words}
 use Rattle.array.proofs.Words.{take-words, drop-words}
 use Rattle.answer.specs.Answer.{part}
@@ -48,3 +49,8 @@ module _ (n : ℕ) (words : List ℕ) where
       let twice : 2 * n ≡ n + n = omega arith in
       let once : n ≡ 1 * n = omega arith in
       ap (λ k. take k words) twice ∙ take-add n n words ∙ ap₂ _++_ (sym part-first) (ap (λ k. take n (drop k words)) once)
+
+-- the four parts as the slices of the words
+pub slices-given : (p n : ℕ) (words : List ℕ) → Given p n (part n words 0) (part n words 1) (part n words 2) (part n words 3)
+    → Given p n (take n words) (take (2 * n - n) (drop n words)) (take (3 * n - 2 * n) (drop (2 * n) words)) (take (4 * n - 3 * n) (drop (3 * n) words))
+slices-given p n words g = rw (part-first, part-second, part-third, part-fourth) at g

@@ -1,16 +1,17 @@
 -- What is printed where a number decides: the line of a refusal, or the text that follows the answer 0.
-use mathlib.Core.Path.{_≡_, refl, sym, ap, subst, _∙_}
+use mathlib.Core.Path.{_≡_, refl, sym, ap, ap₂, subst, _∙_}
+use mathlib.Core.Bool.{Bool, true, false}
 use mathlib.Core.List.{List, [], _∷_}
 use Prim.Native.Nat.{ℕ, zero, suc, _*_}
 use lib.ListN.{take, replicate}
 use Rattle.refusal.proofs.Refusal.{given-sent}
 use Rattle.card.specs.Card.{card, cardLength, writeNumber}
 use Rattle.finder.specs.Finder.{refuseFind}
-use Rattle.pair.specs.Pair.{refusePair, checkNumber, checkNumberOr}
+use Rattle.pair.specs.Pair.{accepts, refusePair, checkNumber, checkNumberOr}
 use Rattle.pair.proofs.Refusals.{all-sent}
 use Rattle.refusal.specs.Models.{Models}
 use Rattle.pair.specs.Theorem.{Given}
-use Rattle.answer.specs.Answer.{part, pairText, validText, refusedText, printed, pairWords, jobText, pairCardText}
+use Rattle.answer.specs.Answer.{part, pairText, validText, ringText, refusedText, printed, pairWords, jobText, pairLine, pairCardText}
 use Rattle.answer.specs.JobWords.{JobWords}
 use Rattle.text.specs.Text.{Begins}
 use Rattle.answer.proofs.Writable.{pair-writable}
@@ -55,10 +56,23 @@ module _ (p n number : ℕ) (t1 t2 s r : List ℕ) (e : number ≡ checkNumber p
   unfolding checkNumberOr
   number-is = e ∙ given-sent p n (t1 ∷ t2 ∷ s ∷ r ∷ []) (t1 ∷ t2 ∷ s ∷ r ∷ []) _ (all-sent p n t1 t2 s r g)
 
-  pub check-refusal : (end : ℕ) (text : List ℕ) → (number ≡ 0 → ⊥) → Begins (refusedText number) text end → Begins (pairCardText p t1 t2 s r) text end
-  unfolding pairCardText
-  check-refusal end text h b = instead (printed-refusal number validText h ∙ ap (λ k. printed k validText) number-is) b
-
   pub check-valid : (end : ℕ) (text : List ℕ) → number ≡ 0 → Begins validText text end → Begins (pairCardText p t1 t2 s r) text end
-  unfolding pairCardText
-  check-valid end text h b = instead (printed-text _ validText (sym number-is ∙ h)) b
+  unfolding pairCardText pairLine
+  check-valid end text h b = instead (ap (λ k. pairLine k (accepts p t1 t2 s r)) (sym h ∙ number-is)) b
+
+  module _ (h : number ≡ 0 → ⊥) (hold : Bool) (f : hold ≡ accepts p t1 t2 s r) (end : ℕ) (text : List ℕ) where
+    pub check-ring : hold ≡ true → Begins ringText text end → Begins (pairCardText p t1 t2 s r) text end
+    unfolding pairCardText
+    check-ring k b = instead (go number h ∙ ap₂ pairLine number-is (sym k ∙ f)) b
+      where
+        go : (a : ℕ) → (a ≡ 0 → ⊥) → ringText ≡ pairLine a true
+        go zero g = absurd (g refl)
+        go (suc j) g = unfold pairLine in refl
+
+    pub check-refusal : hold ≡ false → Begins (refusedText number) text end → Begins (pairCardText p t1 t2 s r) text end
+    unfolding pairCardText
+    check-refusal k b = instead (go number h ∙ ap₂ pairLine number-is (sym k ∙ f)) b
+      where
+        go : (a : ℕ) → (a ≡ 0 → ⊥) → refusedText a ≡ pairLine a false
+        go zero g = absurd (g refl)
+        go (suc j) g = unfold pairLine in refl

@@ -1,2 +1,2 @@
 -- The laws on which the proofs of `lines` rest.
-mod ThreeLines
+mod OneLine

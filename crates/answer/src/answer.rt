@@ -4,7 +4,6 @@ ghost use Prim.Native.Nat.{_*_, _≤_};
 ghost use lib.ListN.{length, replicate, take};
 ghost use Rattle.card.specs.Card.{card, cardLength, writeNumber};
 ghost use Rattle.io.specs.Counts.{Counts};
-ghost use Rattle.pair.specs.Pair.{checkNumber};
 ghost use Rattle.refusal.specs.Models.{Models};
 ghost use Rattle.pair.specs.Theorem.{Given};
 ghost use Rattle.answer.specs.Answer.{answerText, jobText, pairCardText, pairText, part};
@@ -13,10 +12,12 @@ use crate::job::find_pair;
 use crate::job::write_card;
 use crate::lines::put_pair;
 use crate::lines::put_refusal;
+use crate::lines::put_ring;
 use crate::lines::put_valid;
 use array::Word;
 use card::reader::read;
 use pair::checker::check;
+use pair::checker::congruences_hold;
 
 // The line of the pair card of the words, to which no refusal of the writer applies.
 fn print_card(p: u32, n: u32, words: &[Word], text: &mut [u8]) -> usize
@@ -40,21 +41,27 @@ fn answer_job(p: u32, n: u32, words: &mut [Word], text: &mut [u8]) -> usize
     print_card(p, n, &words[..4 * n as usize], text)
 }
 
-// The checker's call for T1, T2, S and R, the first four parts of the words.
-fn check_in(p: u32, n: u32, words: &[Word]) -> u32
-    requires { ⌜ (n ≤ 16) × (length (now words) ≡ 64) ⌝ }
-    ensures { λ number. ⌜ number ≡
-        checkNumber p n (part n (now (words .entry)) 0) (part n (now (words .entry)) 1) (part n (now (words .entry)) 2) (part n (now (words .entry)) 3) ⌝ }
+// What is printed for T1, T2, S and R, to which 1 to 4 do not apply.
+fn print_pair(
+    p: u32,
+    n: u32,
+    t1: &[Word],
+    t2: &[Word],
+    s: &[Word],
+    r: &[Word],
+    text: &mut [u8],
+) -> usize
+    requires { ⌜ (268 ≤ length (now text)) × Given p n (now t1) (now t2) (now s) (now r) ⌝ }
+    ensures { λ end. ⌜ Begins (pairCardText p (now (t1 .entry)) (now (t2 .entry)) (now (s .entry)) (now (r .entry))) (now (text .exit)) end ⌝ }
 {
-    let k = n as usize;
-    check(
-        p,
-        n,
-        &words[..k],
-        &words[k..2 * k],
-        &words[2 * k..3 * k],
-        &words[3 * k..4 * k],
-    )
+    let number = check(p, n, t1, t2, s, r);
+    if number == 0 {
+        return put_valid(text);
+    }
+    if congruences_hold(p, n, t1, t2, s, r) {
+        return put_ring(text);
+    }
+    put_refusal(text, number)
 }
 
 // A pair card: the words begin with T1, T2, S and R.
@@ -65,11 +72,16 @@ fn answer_pair(p: u32, n: u32, words: &[Word], text: &mut [u8]) -> usize
         (pairCardText p (part n (now (words .entry)) 0) (part n (now (words .entry)) 1) (part n (now (words .entry)) 2) (part n (now (words .entry)) 3))
         (now (text .exit)) r ⌝ }
 {
-    let number = check_in(p, n, words);
-    if number == 0 {
-        return put_valid(text);
-    }
-    put_refusal(text, number)
+    let k = n as usize;
+    print_pair(
+        p,
+        n,
+        &words[..k],
+        &words[k..2 * k],
+        &words[2 * k..3 * k],
+        &words[3 * k..4 * k],
+        text,
+    )
 }
 
 // What is printed for the card: the first r bytes of the text.

@@ -1,8 +1,8 @@
-// The three lines that the program prints, written from the start of the text.
+// The lines that the program prints, written from the start of the text.
 ghost use Prim.Native.Nat.{_≤_};
 ghost use lib.ListN.{length};
 ghost use Rattle.text.specs.Text.{Begins};
-ghost use Rattle.answer.specs.Answer.{pairText, refusedText, validText};
+ghost use Rattle.answer.specs.Answer.{pairText, refusedText, ringText, validText};
 use text::bytes::put;
 use text::bytes::put_byte;
 use text::decimal::put_decimal;
@@ -24,6 +24,14 @@ pub fn put_valid(text: &mut [u8]) -> usize
     ensures { λ r. ⌜ Begins validText (now (text .exit)) r ⌝ }
 {
     put(text, 0, b"VALID\n")
+}
+
+// `RING` and a newline.
+pub fn put_ring(text: &mut [u8]) -> usize
+    requires { ⌜ 268 ≤ length (now text) ⌝ }
+    ensures { λ r. ⌜ Begins ringText (now (text .exit)) r ⌝ }
+{
+    put(text, 0, b"RING\n")
 }
 
 // `REFUSED `, the number and a newline.

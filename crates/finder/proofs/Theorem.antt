@@ -85,7 +85,8 @@ module _ (p n : ℕ) (t1 t2 : List ℕ) (models : Models p n t1 t2) where
   found-accepted divides irreducible1 irreducible2 =
       let h : ChosenPair p n t1 t2 (findS p n t1 t2) (findR p n t1 t2) = laws .chosen divides irreducible1 irreducible2 in (
         h,
-        checker-theorem p n t1 t2 (findS p n t1 t2) (findR p n t1 t2) .1 record { models = models; words-s = laws .words h .0; words-r = laws .words h .1 } (laws .congruences h),
+        checker-theorem p n t1 t2 (findS p n t1 t2) (findR p n t1 t2) .1 record { models = models; words-s = laws .words h .0; words-r = laws .words h .1 } irreducible1 irreducible2
+            (laws .congruences h),
       )
 
 -- where 5 to 7 do not apply to two models, the checker accepts the pair
@@ -107,7 +108,7 @@ module _ (p n : ℕ) (t1 t2 lentS lentR : List ℕ) (zero-number : findNumber p 
 pub demand-3 : Demand3Theorem
 demand-3 p n t1 t2 models =
     record {
-      accepted = λ s r h. checker-theorem p n t1 t2 s r .0 h .2;
+      accepted = λ s r h. checker-theorem p n t1 t2 s r .0 h .3;
       returns = λ divides lentS lentR lengthS lengthR. (
         λ h. let c : Returned p n t1 t2 = returned p n t1 t2 models lentS lentR h in (c .irreducible1, c .irreducible2),
         λ i. returns p n t1 t2 models lentS lentR divides lengthS lengthR (i .0) (i .1),

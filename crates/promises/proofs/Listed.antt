@@ -49,7 +49,7 @@ module _ {p n : ℕ} {t1 t2 : List ℕ} {z : ℕ} {v1 v2 : List ℕ} {a1 a2 c : 
   given = checker-theorem p (suc n) t1 t2 s r .0 (h .accepted) .0
 
   congruences : Congruences p t1 t2 s r
-  congruences = checker-theorem p (suc n) t1 t2 s r .0 (h .accepted) .1
+  congruences = checker-theorem p (suc n) t1 t2 s r .0 (h .accepted) .2
 
   root-of-t1 : modulusAt p t2 s t1 ≡ constant (suc n) 0
   root-of-t1 = congruences .root-of-t1 ∙ ap (λ k. constant k 0) (words-length (given .models .modulus2))

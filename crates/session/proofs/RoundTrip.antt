@@ -49,7 +49,7 @@ pub back-again : (x : Session) → Reached (x .held) → (l : Ledger) → l .cou
 unfolding forward backward
 back-again x reached l free table out lent h room =
     let y = x .held in
-    let (g, _, maps) = checker-theorem (y .p) (y .n) (t1Of y) (t2Of y) (sOf y) (rOf y) .0 (reached-accepted reached (is-paired x table out h)) in
+    let (g, _, _, maps) = checker-theorem (y .p) (y .n) (t1Of y) (t2Of y) (sOf y) (rOf y) .0 (reached-accepted reached (is-paired x table out h)) in
     let big : 2 ≤ y .p = g .models .prime .0 in (
       there-and-back x l free table out h lent room big (g .models .modulus2) (g .words-s) (t1Of y) (rOf y) (maps .back-undoes-forth),
       there-and-back x l free table out h lent room big (g .models .modulus1) (g .words-r) (t2Of y) (sOf y) (maps .forth-undoes-back),

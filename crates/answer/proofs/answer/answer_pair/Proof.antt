@@ -1,38 +1,95 @@
--- `answer::answer_pair` prints what the checker decides.
+-- `answer::answer_pair` hands over the four parts of the words.
 use borrow.Author.Needs.{needs}
-use Rattle.answer.proofs.Printed.{check-refusal, check-valid}
+use native.Mathlib.Omega.{arith}
+use Rattle.answer.proofs.Parts.{prefix-length, part-first, part-second, part-third, part-fourth, slices-given}
 use Rattle.answer.proofs.answer.answer_pair.Statement.{statement}
 use Rattle.answer.proofs.answer.answer_pair.Tie as tie
 
-check-in-requires : tie.Need-check-in-requires
-check-in-requires c κs = search needs
+slice-aggregate-print-pair : tie.Need-slice-aggregate-print-pair
+slice-aggregate-print-pair c = prefix-length _ _ (omega arith)
 
-put-valid-requires : tie.Need-put-valid-requires
-put-valid-requires c κs = search needs
+mul-print-pair : tie.Need-mul-print-pair
+mul-print-pair c = search needs
+
+mul-print-pair-2 : tie.Need-mul-print-pair-2
+mul-print-pair-2 c = search needs
+
+sub-print-pair : tie.Need-sub-print-pair
+sub-print-pair c = search needs
+
+part-print-pair-start : tie.Need-part-print-pair-start
+part-print-pair-start c = search needs
+
+part-print-pair-end : tie.Need-part-print-pair-end
+part-print-pair-end c = search needs
+
+mul-print-pair-3 : tie.Need-mul-print-pair-3
+mul-print-pair-3 c = search needs
+
+mul-print-pair-4 : tie.Need-mul-print-pair-4
+mul-print-pair-4 c = search needs
+
+mul-print-pair-5 : tie.Need-mul-print-pair-5
+mul-print-pair-5 c = search needs
+
+sub-print-pair-2 : tie.Need-sub-print-pair-2
+sub-print-pair-2 c = search needs
+
+part-print-pair-start-2 : tie.Need-part-print-pair-start-2
+part-print-pair-start-2 c = search needs
+
+part-print-pair-end-2 : tie.Need-part-print-pair-end-2
+part-print-pair-end-2 c = search needs
+
+mul-print-pair-6 : tie.Need-mul-print-pair-6
+mul-print-pair-6 c = search needs
+
+mul-print-pair-7 : tie.Need-mul-print-pair-7
+mul-print-pair-7 c = search needs
+
+mul-print-pair-8 : tie.Need-mul-print-pair-8
+mul-print-pair-8 c = search needs
+
+sub-print-pair-3 : tie.Need-sub-print-pair-3
+sub-print-pair-3 c = search needs
+
+part-print-pair-start-3 : tie.Need-part-print-pair-start-3
+part-print-pair-start-3 c = search needs
+
+part-print-pair-end-3 : tie.Need-part-print-pair-end-3
+part-print-pair-end-3 c = search needs
+
+print-pair-requires : tie.Need-print-pair-requires
+print-pair-requires c κs = (search needs, search slices-given)
 
 same-length : tie.Need-same-length
 same-length c = search needs
 
 returns : tie.Need-returns
-returns c = search check-valid
-
-put-refusal-requires : tie.Need-put-refusal-requires
-put-refusal-requires c κs = search needs
-
-same-length-2 : tie.Need-same-length-2
-same-length-2 c = search needs
-
-returns-2 : tie.Need-returns-2
-returns-2 c = search check-refusal
+returns c = rw (part-first, part-second, part-third, part-fourth) (c .before .before .print-pair .ensures)
 
 pub answer-pair-spec : {M : Type 1} → statement M
 answer-pair-spec =
     tie.close
     (tie.spec
-    check-in-requires
-    put-valid-requires
+    slice-aggregate-print-pair
+    mul-print-pair
+    mul-print-pair-2
+    sub-print-pair
+    part-print-pair-start
+    part-print-pair-end
+    mul-print-pair-3
+    mul-print-pair-4
+    mul-print-pair-5
+    sub-print-pair-2
+    part-print-pair-start-2
+    part-print-pair-end-2
+    mul-print-pair-6
+    mul-print-pair-7
+    mul-print-pair-8
+    sub-print-pair-3
+    part-print-pair-start-3
+    part-print-pair-end-3
+    print-pair-requires
     same-length
-    returns
-    put-refusal-requires
-    same-length-2
-    returns-2)
+    returns)

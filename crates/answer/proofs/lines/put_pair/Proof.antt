@@ -1,7 +1,7 @@
 -- `lines::put_pair` writes the line of a pair card.
 use native.Mathlib.Omega.{arith}
 use borrow.Author.Needs.{needs}
-use Rattle.answer.proofs.lines.ThreeLines.{pair-room, pair-line}
+use Rattle.answer.proofs.lines.OneLine.{pair-room, pair-line}
 use Rattle.answer.proofs.lines.put_pair.Statement.{statement}
 use Rattle.answer.proofs.lines.put_pair.Tie as tie
 

@@ -1,7 +1,7 @@
 -- `lines::put_refusal` writes the line of a refusal.
 use borrow.Author.Needs.{needs}
 use native.Mathlib.Omega.{arith}
-use Rattle.answer.proofs.lines.ThreeLines.{digits-room, refusal-room, refusal-line}
+use Rattle.answer.proofs.lines.OneLine.{digits-room, refusal-room, refusal-line}
 use Rattle.answer.proofs.lines.put_refusal.Statement.{statement}
 use Rattle.answer.proofs.lines.put_refusal.Tie as tie
 

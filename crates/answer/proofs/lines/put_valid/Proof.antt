@@ -1,6 +1,6 @@
 -- `lines::put_valid` writes the line of an accepted pair.
 use borrow.Author.Needs.{needs}
-use Rattle.answer.proofs.lines.ThreeLines.{valid-line}
+use Rattle.answer.proofs.lines.OneLine.{valid-line}
 use Rattle.answer.proofs.lines.put_valid.Statement.{statement}
 use Rattle.answer.proofs.lines.put_valid.Tie as tie
 

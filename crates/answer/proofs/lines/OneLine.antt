@@ -1,11 +1,11 @@
--- The three lines: each puts its lists one behind another, and 268 bytes hold the longest.
+-- The lines: each puts its lists one behind another, and 268 bytes hold the longest.
 use mathlib.Core.Path.{_≡_}
 use mathlib.Core.List.{List, [], _∷_, _++_}
 use Prim.Native.Nat.{ℕ, _+_, _^_, _≤_, _<_}
 use native.Mathlib.Omega.{arith}
 use lib.ListN.{length, length-append}
 use Rattle.text.specs.Digits.{decimal, hexadecimal}
-use Rattle.answer.specs.Answer.{pairText, refusedText, validText}
+use Rattle.answer.specs.Answer.{pairText, refusedText, ringText, validText}
 use Rattle.text.specs.Text.{Appended, Begins}
 use Rattle.text.proofs.Append.{append-both, begins}
 use Rattle.text.proofs.DecimalDigits.{decimal-length}
@@ -47,3 +47,7 @@ module _ (d : ℕ) (fits : d < 2 ^ 32) {m : ℕ} {t t1 : List ℕ} (a : Appended
 pub valid-line : (r : ℕ) (t t1 : List ℕ) → length t1 ≡ length t → 268 ≤ length t → Appended 0 (86 ∷ 65 ∷ 76 ∷ 73 ∷ 68 ∷ 10 ∷ []) t t1 r → Begins validText t1 r
 unfolding validText
 valid-line r t t1 same room a = begins r (86 ∷ 65 ∷ 76 ∷ 73 ∷ 68 ∷ 10 ∷ []) t t1 a (omega arith)
+
+pub ring-line : (r : ℕ) (t t1 : List ℕ) → length t1 ≡ length t → 268 ≤ length t → Appended 0 (82 ∷ 73 ∷ 78 ∷ 71 ∷ 10 ∷ []) t t1 r → Begins ringText t1 r
+unfolding ringText
+ring-line r t t1 same room a = begins r (82 ∷ 73 ∷ 78 ∷ 71 ∷ 10 ∷ []) t t1 a (omega arith)
