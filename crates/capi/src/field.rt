@@ -1,12 +1,22 @@
 // The calls on models and pairs.
 ghost use mathlib.Core.Path.{_≡_};
+ghost use Rattle.irreducible.specs.Irreducible.{irreducibleNumber};
 ghost use Rattle.finder.specs.Finder.{findNumber, findOutputS, findOutputR};
 ghost use Rattle.pair.specs.Pair.{checkNumber};
 ghost use Rattle.sheet.specs.Sheet.{sheetLength, sheetNumber, sheetOutput};
 ghost use Rattle.arithmetic.specs.Calls.{substituteNumber, substituteOutput, productNumber, productOutput, powerNumber, powerOutput};
 use array::Word;
 
-// Whether the four congruences hold, so that S and R are inverse isomorphisms: 0, or 1, 2, 3, 4, 8.
+// Whether T has no monic divisor of degree 1 to n − 1, so that every residue but 0 has an inverse: 0, or 1, 2, 3, 4, 6.
+#[no_mangle]
+pub extern "C" fn yokebean_irreducible(p: u32, n: u32, t: &[Word]) -> u32
+    ensures { λ k. ⌜ k ≡ irreducibleNumber p n (now (t .entry)) ⌝ }
+{
+    irreducible::call::irreducible(p, n, t)
+}
+
+// Whether neither modulus has a monic divisor of degree 1 to n − 1 and the four congruences hold, so that S and R are inverse isomorphisms of fields: 0, or 1, 2, 3, 4,
+// 6, 7, 8.
 #[no_mangle]
 pub extern "C" fn yokebean_check(
     p: u32,
@@ -21,7 +31,7 @@ pub extern "C" fn yokebean_check(
     pair::checker::check(p, n, t1, t2, s, r)
 }
 
-// out := T1, T2, S and R printed on a sheet: 0, or 1, 2, 3, 4, 8.
+// out := T1, T2, S and R printed on a sheet: 0, or 1, 2, 3, 4, 6, 7, 8.
 #[no_mangle]
 pub extern "C" fn yokebean_sheet(
     p: u32,

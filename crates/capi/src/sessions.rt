@@ -57,7 +57,7 @@ pub extern "C" fn yokebean_session_load(
     held_answers(session, valid, held_if(valid, held).load(p, n, t1, t2))
 }
 
-// Loaded to paired, if the checker accepts: 0, or 21, 24, 3, 4, 8.
+// Loaded to paired, if the checker accepts: 0, or 21, 24, 3, 4, 6, 7, 8.
 #[no_mangle]
 pub extern "C" fn yokebean_session_propose(
     session: SessionValue,

@@ -7,7 +7,7 @@
 --   newHeld, loadedHeld, pairedHeld    the values that the calls make, with zeros where a list ends or is not held
 --   answer k next taken         number k: the next value where k is 0, else the value taken
 --   load x p n t1 t2            load: empty to loaded; 23, 1 to 4
---   propose x s r               propose S, R: loaded to paired if the checker accepts; 21, 24, 3, 4, 8
+--   propose x s r               propose S, R: loaded to paired if the checker accepts; 21, 24, 3, 4, 6, 7, 8
 --   find x                      find: loaded to paired with the finder's pair; 21, 24, 5, 6, 7
 use mathlib.Core.Bool.{Bool, true, false, _&&_, not}
 use mathlib.Core.List.{List, [], _∷_}

@@ -59,7 +59,7 @@ fn propose_loaded(
 }
 
 impl Held {
-    // The models with a pair that the checker accepts: 21, 24, 3, 4, 8.
+    // The models with a pair that the checker accepts: 21, 24, 3, 4, 6, 7, 8.
     pub fn propose(self, s: &[Word], r: &[Word]) -> HeldStep
         ensures { λ y. ⌜ y ≡ proposeOf self (now (s .entry)) (now (r .entry)) ⌝ }
     {

@@ -1,14 +1,16 @@
 -- The proof of examples A to I. The values of A, D and E pass their tests, so they are the finder's; F and G are refused by a factorisation, G's 7 also
 -- because A's answer 0 says that 6 does not apply to T1; H is the refusal for an n that does not divide p − 1. Each `refl` computes one test,
--- conversion or card; alpha, express and hasDivisor, which go through all residues, are not computed.
+-- conversion, card or line, with the test for divisors; alpha and express, which go through all residues, are not computed.
 use mathlib.Core.Path.{refl}
 use mathlib.Core.List.{[], _∷_}
 use borrow.Author.Tests.{eq-eqb}
 use lib.Dec.{lit<, lit≤}
 use lib.ListN.{length}
 use Rattle.algebra.specs.Lists.{all, equal, first, range}
-use Rattle.card.specs.Bits.{bits, numberFrom, bytes, packed}
-use Rattle.card.specs.Card.{width, allBits, card, badKind, cardLength, writeNumber, writeOutput}
+use Rattle.answer.specs.Answer.{part, cardPart, ringText, printed, pairLine, pairCardText, cardText, answerText}
+use Rattle.text.specs.Ascii.{ascii}
+use Rattle.card.specs.Bits.{bits, numberFrom, bytes, packed, unpacked}
+use Rattle.card.specs.Card.{width, badKind, allBits, card, cardLength, writeNumber, writeOutput, fieldAt, cardPrime, cardDegree, cardKind, fieldsAt, cardWords, fillBits, readNumber}
 use Rattle.roots.specs.Roots.{zeta, rootOfRatio}
 use Rattle.galois.specs.Eigenvector.{firstNonZero}
 use Rattle.finder.specs.Finder.{findable, findNumber}
@@ -17,8 +19,8 @@ use Rattle.array.specs.Words.{allBelow}
 use Rattle.refusal.specs.Refusal.{badPrime, isDegree, badDegree, badLength, badWord}
 use Rattle.pair.specs.Pair.{accepts, checkNumberOr}
 use Rattle.quotient.specs.Divisor.{monic, polynomialProduct}
-use Rattle.quotient.specs.DivisorTest.{hasDivisor}
-use Rattle.quotient.specs.Residue.{sum, scale, constant, shift, top, timesX, product, power, residueOfX, substitute, modulusAt}
+use Rattle.quotient.specs.DivisorTest.{dividesTest, hasDivisor}
+use Rattle.quotient.specs.Residue.{residues, prefixed, sum, scale, constant, shift, top, timesX, product, power, residueOfX, substitute, modulusAt}
 use Rattle.refusal.proofs.Refusal.{refuse-none}
 use Rattle.array.specs.Array.{padded}
 use Rattle.held.specs.Held.{valid, validAs, validHeld, viewAs, view, pairedHeld}
@@ -29,9 +31,12 @@ use Rattle.promises.proofs.Listed.{root, found, outputs}
 use Rattle.promises.proofs.Refused.{words-counted, factor-divides, indivisible-refused, divisor-refused, second-refused}
 
 pub examples : Examples
-unfolding all equal first range bits numberFrom bytes packed width allBits card badKind cardLength writeNumber writeOutput zeta rootOfRatio firstNonZero findable findNumber isPrime badPrime isDegree badDegree badLength
-    badWord allBelow accepts checkNumberOr monic polynomialProduct sum scale constant shift top timesX product power residueOfX substitute modulusAt
-    padded valid validAs validHeld viewAs view pairedHeld eachGroup converted tableNumber validWith counted convertFrom convertNumber outputBy
+unfolding hasDivisor dividesTest residues prefixed all equal first range bits numberFrom bytes packed width allBits card badKind cardLength writeNumber
+    writeOutput zeta rootOfRatio firstNonZero findable findNumber isPrime badPrime isDegree badDegree badLength badWord allBelow accepts checkNumberOr
+    monic polynomialProduct sum scale constant shift top timesX product power residueOfX substitute modulusAt padded valid validAs validHeld viewAs
+    view pairedHeld eachGroup converted tableNumber validWith counted convertFrom convertNumber outputBy unpacked fieldAt cardPrime cardDegree cardKind
+    fieldsAt cardWords fillBits readNumber part cardPart ringText printed pairLine pairCardText cardText
+    answerText ascii
 examples =
     let A : FinderValues 3 2 (1 ∷ 0 ∷ []) (2 ∷ 1 ∷ []) 2 (0 ∷ 1 ∷ []) (1 ∷ 2 ∷ []) 2 2 1 (1 ∷ 2 ∷ []) (1 ∷ 2 ∷ []) =
     found refl refl refl (root refl refl refl refl refl) (root refl refl refl refl refl) refl refl in
@@ -45,6 +50,7 @@ examples =
       D = found refl refl refl (root refl refl refl refl refl) (root refl refl refl refl refl) refl refl;
       E = found refl refl refl (root refl refl refl refl refl) (root refl refl refl refl refl) refl refl;
       F-check = refl;
+      F-card = refl;
       F-find = λ lentS lentR lengthS lengthR.
           divisor-refused refl refl (words-counted 3 (0 ∷ 0 ∷ []) refl) (words-counted 3 (0 ∷ 0 ∷ []) refl) lentS lentR lengthS lengthR refl
           (factor-divides 3 (0 ∷ []) (0 ∷ 1 ∷ []) (0 ∷ 0 ∷ []) (lit≤ tt) refl refl (lit< tt) (lit< tt) refl);

@@ -4,6 +4,7 @@ use Rattle.card.proofs.Theorem as Card
 use Rattle.cvalue.proofs.Theorem as Values
 use Rattle.finder.proofs.Theorem as Finder
 use Rattle.held.proofs.Theorem as Held
+use Rattle.irreducible.proofs.Theorem as Irreducible
 use Rattle.ledger.proofs.Theorem as Ledger
 use Rattle.modular.proofs.IsPrime as Modular
 use Rattle.pair.proofs.Theorem as Pair
@@ -40,6 +41,11 @@ promises =
       power-of-unit = Quotient.power-of-unit;
       irreducible-divisor = Quotient.irreducible-divisor;
       frobenius-is-linear = Quotient.frobenius-is-linear;
+      rabins-criterion = Irreducible.rabins-criterion;
+      field-exactly = Irreducible.field-exactly;
+      irreducible-modulus = Irreducible.irreducible-theorem;
+      congruences-suffice = Pair.congruences-theorem;
+      divisors-together = Pair.divisors-together;
       written-reads-back = Card.written-reads-back;
       read-is-written = Card.read-is-written;
       longest-card = Card.longest-card;

@@ -7,7 +7,8 @@ use Rattle.modular.specs.Prime.{isPrime}
 use Rattle.array.specs.Words.{allBelow}
 use Rattle.refusal.specs.Refusal.{badPrime, isDegree, badDegree, badLength, badWord}
 use Rattle.pair.specs.Pair.{accepts, checkNumberOr}
-use Rattle.quotient.specs.Residue.{sum, scale, constant, shift, top, timesX, product, power, residueOfX, substitute, modulusAt}
+use Rattle.quotient.specs.DivisorTest.{dividesTest, hasDivisor}
+use Rattle.quotient.specs.Residue.{residues, prefixed, sum, scale, constant, shift, top, timesX, product, power, residueOfX, substitute, modulusAt}
 use Rattle.text.specs.Ascii.{ascii}
 use Rattle.text.specs.Digits.{decimal, lastDigits}
 use Rattle.text.specs.Columns.{blanks, signedDecimal, rightJustified, filled}
@@ -15,7 +16,7 @@ use Rattle.sheet.specs.Sheet.{centred, columns, line, lines, polynomial, sheetT
 use Rattle.promises.specs.SheetExamples.{SheetExamples}
 
 pub sheet-examples : SheetExamples
-unfolding all equal first range isPrime allBelow badPrime isDegree badDegree badLength badWord accepts checkNumberOr sum scale constant shift top timesX product power residueOfX substitute modulusAt
+unfolding hasDivisor dividesTest residues prefixed all equal first range isPrime allBelow badPrime isDegree badDegree badLength badWord accepts checkNumberOr sum scale constant shift top timesX product power residueOfX substitute modulusAt
     ascii decimal lastDigits blanks signedDecimal rightJustified filled centred columns line lines polynomial sheetText sheetLength sheetNumber sheetOutput
 sheet-examples =
     record {

@@ -4,11 +4,13 @@ use mathlib.Core.Path.{_≡_}
 use mathlib.Core.List.{List, [], _∷_}
 use Prim.Native.Nat.{ℕ}
 use lib.ListN.{length}
+use Rattle.answer.specs.Answer.{answerText}
 use Rattle.card.specs.Card.{writeOutput}
 use Rattle.roots.specs.Roots.{zeta, rootOfRatio}
 use Rattle.galois.specs.Eigenvector.{alpha, powerConstant}
 use Rattle.finder.specs.Finder.{findS, findR, findNumber, findOutputS, findOutputR}
 use Rattle.pair.specs.Pair.{checkNumber}
+use Rattle.text.specs.Ascii.{ascii}
 use Rattle.quotient.specs.Divisor.{monic, polynomialProduct}
 use Rattle.array.specs.Words.{Words}
 use Rattle.held.specs.Held.{pairedHeld}
@@ -46,8 +48,9 @@ pub record Examples : Type 0 where
       FinderValues 7 3 (5 ∷ 0 ∷ 0 ∷ []) (4 ∷ 0 ∷ 0 ∷ []) 2 (0 ∷ 0 ∷ 1 ∷ []) (0 ∷ 1 ∷ 0 ∷ []) 4 3 3 (0 ∷ 0 ∷ 1 ∷ []) (0 ∷ 0 ∷ 5 ∷ [])
   -- E: p 2, T1 [1], T2 [0]: S [1], R [0]
   pub E : FinderValues 2 1 (1 ∷ []) (0 ∷ []) 1 (1 ∷ []) (1 ∷ []) 1 1 1 (1 ∷ []) (0 ∷ [])
-  -- F: p 3, T1 = T2 = [0,0]: S = R = [0,1] is accepted; the finder refuses with 6
-  pub F-check : checkNumber 3 2 (0 ∷ 0 ∷ []) (0 ∷ 0 ∷ []) (0 ∷ 1 ∷ []) (0 ∷ 1 ∷ []) ≡ 0
+  -- F: p 3, T1 = T2 = [0,0]: with S = R = [0,1] "is now refused with 6" (request S-3), and its stored card prints RING; the finder refuses with 6
+  pub F-check : checkNumber 3 2 (0 ∷ 0 ∷ []) (0 ∷ 0 ∷ []) (0 ∷ 1 ∷ []) (0 ∷ 1 ∷ []) ≡ 6
+  pub F-card : answerText (0x00 ∷ 0x03 ∷ 0x12 ∷ 0x00 ∷ 0x11 ∷ []) ≡ ascii "RING\n"
   pub F-find :
       (lentS lentR : List ℕ) → length lentS ≡ 2 → length lentR ≡ 2 → findNumber 3 2 (0 ∷ 0 ∷ []) (0 ∷ 0 ∷ []) lentS lentR ≡ 6
   -- G: p 3, T1 [2,0] is (X+1)(X+2): finder 6, whatever T2; as T2 under T1 [1,0]: 7

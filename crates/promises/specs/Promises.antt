@@ -10,7 +10,9 @@ use Rattle.card.specs.Theorem.{WrittenReadsBack, ReadIsWritten, LongestCard}
 use Rattle.cvalue.specs.Theorem.{ValuesFollow}
 use Rattle.finder.specs.Theorem.{Demand3Theorem}
 use Rattle.modular.specs.Prime.{PrimeTestIsExact}
-use Rattle.pair.specs.Theorem.{CheckerTheorem, DegreeOne}
+use Rattle.irreducible.specs.Irreducible.{FieldExactly, IrreducibleTheorem}
+use Rattle.irreducible.specs.Rabin.{RabinsCriterion}
+use Rattle.pair.specs.Theorem.{CheckerTheorem, CongruencesTheorem, DivisorsTogether, DegreeOne}
 use Rattle.quotient.specs.DivisorTest.{DivisorTestIsExact}
 use Rattle.quotient.specs.Theorem.{ResiduesAreARing, ModulusVanishes, ProductIsRemainder, SubstitutionIsSum, SubstitutionPreserves, ResiduesAreListed, NonZeroIsUnit, PowerOfUnit, IrreducibleDivisor, FrobeniusIsLinear}
 use Rattle.held.specs.Theorem.{CountsAsHeld}
@@ -28,7 +30,7 @@ pub record Promises : Type 0 where
   pub every-run : EveryRun
   pub refusals-change-nothing : RefusalsChangeNothing
   pub counts-as-held : CountsAsHeld
-  -- Demand 2. Accepted (pair/specs/Theorem.antt): 0 exactly when 1 to 4 do not apply and the four congruences hold. Found: demand 3 below.
+  -- Demand 2. Accepted (pair/specs/Theorem.antt): 0 exactly when 1 to 4 do not apply, neither modulus has a proper divisor and the four congruences hold. Found: demand 3 below.
   -- Converted (session/specs/Theorem.antt): the k-th group of the output is the image of the k-th group of the input, for every k; and a table
   -- comes back
   pub accepted : CheckerTheorem
@@ -52,6 +54,14 @@ pub record Promises : Type 0 where
   pub power-of-unit : PowerOfUnit
   pub irreducible-divisor : IrreducibleDivisor
   pub frobenius-is-linear : FrobeniusIsLinear
+  -- Fields only, request S-3 (irreducible/specs/Rabin.antt, Irreducible.antt, pair/specs/Theorem.antt): Rabin's criterion; T has no proper divisor exactly when every residue but
+  -- 0 has an inverse; what the call for one modulus answers; the four congruences alone make inverse isomorphisms of rings, over any moduli; and then T1 and T2
+  -- have proper divisors together
+  pub rabins-criterion : RabinsCriterion
+  pub field-exactly : FieldExactly
+  pub irreducible-modulus : IrreducibleTheorem
+  pub congruences-suffice : CongruencesTheorem
+  pub divisors-together : DivisorsTogether
   -- Cards (card/specs/Theorem.antt)
   pub written-reads-back : WrittenReadsBack
   pub read-is-written : ReadIsWritten

@@ -9,7 +9,7 @@
 --   answer k next taken         number k: the next session where k is 0, else the session taken
 --   stepWith x y                the answer where what x holds answers y
 --   load x p n t1 t2            load: empty to loaded; 23, 1 to 4
---   propose x s r               propose S, R: loaded to paired if the checker accepts; 21, 24, 3, 4, 8
+--   propose x s r               propose S, R: loaded to paired if the checker accepts; 21, 24, 3, 4, 6, 7, 8
 --   find x                      find: loaded to paired with the finder's pair; 21, 24, 5, 6, 7
 --   orElse k rest               the number k, or what comes after it where k is 0
 --   whereZero j k               k where the number j is 0, else 0

@@ -87,7 +87,7 @@ impl Session {
         self.step_with(valid, held_if(valid, held).load(p, n, t1, t2))
     }
 
-    // The session with a pair that the checker accepts: 21, 24, 3, 4, 8.
+    // The session with a pair that the checker accepts: 21, 24, 3, 4, 6, 7, 8.
     pub fn propose(self, s: &[Word], r: &[Word]) -> Step
         ensures { λ y. ⌜ y ≡ proposeOf self (now (s .entry)) (now (r .entry)) ⌝ }
     {
