@@ -11,7 +11,7 @@
  *    3  a list of coefficients, read or written, or the output list of a card, sheet or report has the wrong length
  *    4  a coefficient is p or more
  *    5  n does not divide p - 1
- *    6  T1 has a monic divisor of degree 1 to n - 1
+ *    6  T1, or T where a call has one modulus, has a monic divisor of degree 1 to n - 1
  *    7  T2 has one
  *    8  one of the congruences T1(S) = 0 mod T2, T2(R) = 0 mod T1, S(R) = X mod T1, R(S) = X mod T2 fails
  *    9  words to convert: above 32,768 or not a multiple of n
@@ -48,14 +48,18 @@ uint32_t yokebean_product(uint32_t p, uint32_t n, const uint16_t *t, size_t t_le
 uint32_t yokebean_power(uint32_t p, uint32_t n, const uint16_t *t, size_t t_len, const uint16_t *u, size_t u_len,
                         uint64_t k, uint16_t *out, size_t out_len);
 
-/* The checker: whether the four congruences hold; then u -> u(S) mod T2 and u -> u(R) mod T1 are inverse isomorphisms. 1, 2, 3, 4, 8. */
+/* Whether T is irreducible, that is, has no monic divisor of degree 1 to n - 1; then every residue but 0 has an inverse. 1, 2, 3, 4, 6. */
+uint32_t yokebean_irreducible(uint32_t p, uint32_t n, const uint16_t *t, size_t t_len);
+
+/* The checker: whether T1 and T2 are irreducible and the four congruences hold; then both models are fields, in which every residue but 0 has an
+ * inverse, and u -> u(S) mod T2 and u -> u(R) mod T1 are inverse isomorphisms. 1, 2, 3, 4, 6, 7, 8. */
 uint32_t yokebean_check(uint32_t p, uint32_t n, const uint16_t *t1, size_t t1_len, const uint16_t *t2, size_t t2_len,
                         const uint16_t *s, size_t s_len, const uint16_t *r, size_t r_len);
 
 /* The printed sheet of a pair that the checker accepts: T1, T2, S and R, each starting a line with its name in 3 columns; coefficients follow,
  * constant first, eight to a line, right-justified in 7 columns; continued lines begin with 3 blanks, and every line is filled with blanks to
  * 59 columns and ends with a newline. A word v prints as v if v is at most p/2 rounded down, else as v - p. ASCII, without a zero at the end.
- * out has yokebean_sheet_length(n) bytes: 240 for n up to 8, 480 for n from 9 to 16. 1, 2, 3, 4, 8. */
+ * out has yokebean_sheet_length(n) bytes: 240 for n up to 8, 480 for n from 9 to 16. 1, 2, 3, 4, 6, 7, 8. */
 uint32_t yokebean_sheet(uint32_t p, uint32_t n, const uint16_t *t1, size_t t1_len, const uint16_t *t2, size_t t2_len,
                         const uint16_t *s, size_t s_len, const uint16_t *r, size_t r_len, uint8_t *out, size_t out_len);
 size_t yokebean_sheet_length(uint32_t n);
@@ -73,7 +77,8 @@ typedef struct {
 /* A session's value: state 0 is empty, 1 loaded (p, n, t1, t2), 2 paired (also s, r); the first n words of each array and the first `records`
  * records of the ledger count. A value with another state, with more than 512 records, with another direction in a record that counts, or with a
  * p, n or coefficient, of those that its state has, that 1, 2 or 4 refuses, counts as a new one, so without records. Past the records that
- * count the ledger is not looked at and stays as it is. */
+ * count the ledger is not looked at and stays as it is. The moduli and the pair of a paired value are not tested again for divisors and congruences:
+ * it converts by plain substitution. */
 typedef struct {
     uint32_t state, p, n;
     uint16_t t1[16], t2[16], s[16], r[16];
@@ -94,7 +99,7 @@ yokebean_session yokebean_session_new(void);
 yokebean_step yokebean_session_load(yokebean_session session, uint32_t p, uint32_t n, const uint16_t *t1, size_t t1_len,
                                     const uint16_t *t2, size_t t2_len);
 
-/* Loaded to paired, if the checker accepts. 21, 24, 3, 4, 8. */
+/* Loaded to paired, if the checker accepts. 21, 24, 3, 4, 6, 7, 8. */
 yokebean_step yokebean_session_propose(yokebean_session session, const uint16_t *s, size_t s_len, const uint16_t *r, size_t r_len);
 
 /* Loaded to paired, with the finder's pair. 21, 24, 5, 6, 7. */

@@ -1,5 +1,6 @@
-//! Isomorphisms of finite fields: check a pair, find one, convert tables through it. Each function passes its slices on to the proved call of
-//! the same name in include/yokebean.h, which `rt staticlib capi` builds; none of them panics, and a refused call leaves every slice as it was.
+//! Isomorphisms of finite fields: test a modulus, check a pair, find one, convert tables through it. Each function passes its slices on to the
+//! proved call of the same name in include/yokebean.h, which `rt staticlib capi` builds; none of them panics, and a refused call leaves every slice
+//! as it was.
 //!
 //! A model is a prime p up to 65,535, a degree n from 1 to 16 and a monic modulus of degree n; its n lower words are passed, constant first.
 //! A residue is n words below p, in the same order.
@@ -83,7 +84,23 @@ pub fn power(size: Size, t: &[u16], u: &[u16], k: u64, out: &mut [u16]) -> Resul
     answer(number, ())
 }
 
-/// The checker: whether the four congruences hold; then u ↦ u(S) mod T2 and u ↦ u(R) mod T1 are inverse isomorphisms. Refusals 1, 2, 3, 4, 8.
+/// Whether T is irreducible, that is, has no monic divisor of degree 1 to n − 1; then every residue but 0 has an inverse. Refusals 1, 2, 3, 4, 6.
+///
+/// ```
+/// use yokebean::{irreducible, Refusal, Size};
+///
+/// let size = Size { p: 3, n: 2 };
+/// assert_eq!(irreducible(size, &[1, 0]), Ok(())); // X² + 1
+/// assert_eq!(irreducible(size, &[2, 0]), Err(Refusal::FirstModulusFactors)); // X² + 2 = (X + 1)(X + 2)
+/// ```
+pub fn irreducible(size: Size, t: &[u16]) -> Result<(), Refusal> {
+    let Size { p, n } = size;
+    let number = unsafe { raw::yokebean_irreducible(p, n, t.as_ptr(), t.len()) };
+    answer(number, ())
+}
+
+/// The checker: whether T1 and T2 are irreducible and the four congruences hold; then both models are fields, and u ↦ u(S) mod T2 and
+/// u ↦ u(R) mod T1 are inverse isomorphisms. Refusals 1, 2, 3, 4, 6, 7, 8.
 ///
 /// ```
 /// use yokebean::{check, Refusal, Size};
@@ -91,6 +108,8 @@ pub fn power(size: Size, t: &[u16], u: &[u16], k: u64, out: &mut [u16]) -> Resul
 /// let (size, t1, t2) = (Size { p: 3, n: 2 }, [1, 0], [2, 1]);
 /// assert_eq!(check(size, &t1, &t2, &[2, 1], &[1, 1]), Ok(()));
 /// assert_eq!(check(size, &t1, &t2, &[2, 1], &[1, 2]), Err(Refusal::Congruence));
+/// // modulo X² the congruences hold for S = R = X, but X has no inverse
+/// assert_eq!(check(size, &[0, 0], &[0, 0], &[0, 1], &[0, 1]), Err(Refusal::FirstModulusFactors));
 /// ```
 pub fn check(size: Size, t1: &[u16], t2: &[u16], s: &[u16], r: &[u16]) -> Result<(), Refusal> {
     let Size { p, n } = size;
@@ -105,7 +124,7 @@ pub fn sheet_length(n: u32) -> usize {
 }
 
 /// The printed sheet of a pair that the checker accepts: T1, T2, S and R, coefficients constant first, eight to a line, each word v above half of
-/// p as v − p. `out` has [`sheet_length`] bytes and receives ASCII text. Refusals 1, 2, 3, 4, 8.
+/// p as v − p. `out` has [`sheet_length`] bytes and receives ASCII text. Refusals 1, 2, 3, 4, 6, 7, 8.
 ///
 /// ```
 /// let size = yokebean::Size { p: 3, n: 2 };
@@ -224,7 +243,7 @@ impl Session {
         Self::next(unsafe { raw::yokebean_session_load(self.0, size.p, size.n, t1.as_ptr(), t1.len(), t2.as_ptr(), t2.len()) })
     }
 
-    /// Loaded to paired, if the checker accepts. Refusals 21, 24, 3, 4, 8.
+    /// Loaded to paired, if the checker accepts. Refusals 21, 24, 3, 4, 6, 7, 8.
     ///
     /// ```
     /// use yokebean::{Refusal, Session, Size};
@@ -232,6 +251,9 @@ impl Session {
     /// let loaded = Session::new().load(Size { p: 3, n: 2 }, &[1, 0], &[2, 1])?;
     /// assert!(loaded.propose(&[2, 1], &[1, 1]).is_ok());
     /// assert_eq!(loaded.propose(&[2, 1], &[1, 2]), Err(Refusal::Congruence));
+    /// // the second modulus X² + 2 is (X + 1)(X + 2)
+    /// let loaded = Session::new().load(Size { p: 3, n: 2 }, &[1, 0], &[2, 0])?;
+    /// assert_eq!(loaded.propose(&[0, 1], &[0, 1]), Err(Refusal::SecondModulusFactors));
     /// # Ok::<(), Refusal>(())
     /// ```
     pub fn propose(self, s: &[u16], r: &[u16]) -> Result<Self, Refusal> {

@@ -13,6 +13,7 @@ pub struct Record {
 }
 
 /// A session's value: state 0 is empty, 1 loaded, 2 paired; the first n words of each array and the first `records` records of the ledger count.
+/// The moduli and the pair of a paired value are not tested again for divisors and congruences.
 #[repr(C)]
 #[derive(Clone, Copy, Debug, PartialEq, Eq)]
 pub struct Session {
@@ -50,6 +51,7 @@ extern "C" {
     pub fn yokebean_substitute(p: u32, n: u32, t: Words, t_len: usize, s: Words, s_len: usize, u: Words, u_len: usize, out: Lent, out_len: usize) -> u32;
     pub fn yokebean_product(p: u32, n: u32, t: Words, t_len: usize, u: Words, u_len: usize, v: Words, v_len: usize, out: Lent, out_len: usize) -> u32;
     pub fn yokebean_power(p: u32, n: u32, t: Words, t_len: usize, u: Words, u_len: usize, k: u64, out: Lent, out_len: usize) -> u32;
+    pub fn yokebean_irreducible(p: u32, n: u32, t: Words, t_len: usize) -> u32;
 
     pub fn yokebean_check(p: u32, n: u32, t1: Words, t1_len: usize, t2: Words, t2_len: usize, s: Words, s_len: usize, r: Words, r_len: usize) -> u32;
     pub fn yokebean_sheet(p: u32, n: u32, t1: Words, t1_len: usize, t2: Words, t2_len: usize, s: Words, s_len: usize, r: Words, r_len: usize, out: *mut u8, out_len: usize) -> u32;
