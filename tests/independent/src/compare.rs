@@ -1,6 +1,9 @@
 //! One module for each part of the library; each draws inputs, calls both sides and compares number and lists.
 
 pub mod cards;
+mod case;
+mod known;
+pub mod moduli;
 pub mod pairs;
 pub mod program;
 pub mod residues;
@@ -9,6 +12,27 @@ pub mod sheets;
 
 use std::collections::BTreeMap;
 use std::fmt::Debug;
+
+/// The numbers that a call can give. Each must have occurred with it.
+const NUMBERS: [(&str, &[u32]); 17] = [
+    ("product", &[0, 1, 2, 3, 4]),
+    ("power", &[0, 1, 2, 3, 4]),
+    ("substitute", &[0, 1, 2, 3, 4]),
+    ("irreducible", &[0, 1, 2, 3, 4, 6]),
+    ("check", &[0, 1, 2, 3, 4, 6, 7, 8]),
+    ("sheet", &[0, 1, 2, 3, 4, 6, 7, 8]),
+    ("find", &[0, 1, 2, 3, 4, 5, 6, 7]),
+    ("session_load", &[0, 23, 1, 2, 3, 4]),
+    ("session_propose", &[0, 21, 24, 3, 4, 6, 7, 8]),
+    ("session_find", &[0, 21, 24, 5, 6, 7]),
+    ("session_forward", &[0, 21, 22, 9, 10, 4, 25]),
+    ("session_back", &[0, 21, 22, 9, 10, 4, 25]),
+    ("session_report", &[0, 3]),
+    ("card_read", &[0, 3, 11, 1, 12, 13, 4]),
+    ("card_write", &[0, 1, 2, 12, 3, 4]),
+    ("fieldcard", &[0, 11, 1, 12, 13, 4, 5, 6, 7, 8]),
+    ("fieldcard_ring", &[0]),
+];
 
 /// Comparisons so far, by call and by the number that the call gave.
 #[derive(Default)]
@@ -23,7 +47,7 @@ impl Tally {
         *self.seen.entry((call, number)).or_default() += 1;
     }
 
-    /// Prints the counts. Every number of the documents must have occurred.
+    /// Prints the counts.
     pub fn report(&self) {
         let mut calls: BTreeMap<&str, String> = BTreeMap::new();
         for ((call, number), count) in &self.seen {
@@ -32,8 +56,10 @@ impl Tally {
         for (call, counts) in calls {
             println!("{call:<16}{counts}");
         }
-        for number in [0, 1, 2, 3, 4, 5, 6, 7, 8, 9, 10, 11, 12, 13, 21, 22, 23, 24, 25] {
-            assert!(self.seen.keys().any(|(_, seen)| *seen == number), "number {number} never occurred");
+        for (call, numbers) in NUMBERS {
+            for number in numbers {
+                assert!(self.seen.contains_key(&(call, *number)), "{call} never gave {number}");
+            }
         }
         println!("{} calls agree with the independent implementation", self.seen.values().sum::<u64>());
     }

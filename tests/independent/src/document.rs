@@ -1,14 +1,17 @@
-//! Document 01, and of document 02 the requests that have landed, in plain Rust: what the calls must answer, written from the document and by other methods than the proved code's.
-//! Polynomials are multiplied out and divided with remainder; divisors are found by greatest common divisors; the finder's values come from
-//! sums over conjugates (Lagrange resolvents), without solving linear systems; cards are strings of bits.
+//! Document 01, and of document 02 the requests that have landed, in plain Rust: what the calls must answer, written from the documents and by other
+//! methods than the proved code's. Polynomials are multiplied out and divided with remainder; divisors are found by trial division, or by greatest
+//! common divisors where there are too many to try; the finder's values come from sums over conjugates (Lagrange resolvents), without solving linear
+//! systems; cards are strings of bits.
 
 pub mod card;
+pub mod divisor;
 pub mod finder;
 pub mod model;
 pub mod polynomial;
 pub mod session;
 pub mod sheet;
 
+use divisor::has_divisor;
 use model::Model;
 
 /// Whether p is a prime from 2 to 65,535: no d with d·d ≤ p divides it.
@@ -57,25 +60,38 @@ pub fn congruences(p: u32, t1: &[u16], t2: &[u16], s: &[u16], r: &[u16]) -> bool
         && k2.substitute(s, r) == k2.x()
 }
 
-pub fn check(p: u32, n: u32, t1: &[u16], t2: &[u16], s: &[u16], r: &[u16]) -> u32 {
-    first(&[&|| number(p, n, &[t1, t2, s, r], &[]), &|| if congruences(p, t1, t2, s, r) { 0 } else { 8 }])
-}
-
-/// Refusals 5, 6 and 7, or 0.
-pub fn field_number(p: u32, n: u32, t1: &[u16], t2: &[u16]) -> u32 {
-    if (p - 1) % n != 0 {
-        5
-    } else if polynomial::has_divisor(p, t1) {
+/// Refusal 6 or 7, or 0.
+pub fn field_number(p: u32, t1: &[u16], t2: &[u16]) -> u32 {
+    if has_divisor(p, t1) {
         6
-    } else if polynomial::has_divisor(p, t2) {
+    } else if has_divisor(p, t2) {
         7
     } else {
         0
     }
 }
 
+/// Refusal 6, 7 or 8, or 0: "Acceptance means field moduli and the four congruences".
+pub fn pair_number(p: u32, t1: &[u16], t2: &[u16], s: &[u16], r: &[u16]) -> u32 {
+    first(&[&|| field_number(p, t1, t2), &|| if congruences(p, t1, t2, s, r) { 0 } else { 8 }])
+}
+
+pub fn check(p: u32, n: u32, t1: &[u16], t2: &[u16], s: &[u16], r: &[u16]) -> u32 {
+    first(&[&|| number(p, n, &[t1, t2, s, r], &[]), &|| pair_number(p, t1, t2, s, r)])
+}
+
+/// The test of one modulus.
+pub fn irreducible(p: u32, n: u32, t: &[u16]) -> u32 {
+    first(&[&|| number(p, n, &[t], &[]), &|| if has_divisor(p, t) { 6 } else { 0 }])
+}
+
+/// Refusals 5, 6 and 7, or 0.
+pub fn finder_number(p: u32, n: u32, t1: &[u16], t2: &[u16]) -> u32 {
+    first(&[&|| if (p - 1) % n == 0 { 0 } else { 5 }, &|| field_number(p, t1, t2)])
+}
+
 pub fn find(p: u32, n: u32, t1: &[u16], t2: &[u16], s: &[u16], r: &[u16]) -> (u32, Vec<u16>, Vec<u16>) {
-    match first(&[&|| number(p, n, &[t1, t2], &[s, r]), &|| field_number(p, n, t1, t2)]) {
+    match first(&[&|| number(p, n, &[t1, t2], &[s, r]), &|| finder_number(p, n, t1, t2)]) {
         0 => {
             let pair = finder::pair(p, t1, t2);
             (0, pair.s, pair.r)

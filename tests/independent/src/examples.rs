@@ -1,4 +1,4 @@
-//! Examples A to J of document 01, and the report and the sheet of A, on the independent implementation itself.
+//! Examples A to J of document 01, F as request S-3 has it, and the report and the sheet of A, on the independent implementation itself.
 
 use crate::document::{self, card, finder, is_prime, session::Session, sheet};
 
@@ -16,7 +16,9 @@ pub fn hold() {
     assert_eq!((pair.zeta, &pair.alpha1[..], &pair.alpha2[..], pair.a1, pair.a2, pair.c), (2, &[0, 0, 1][..], &[0, 1, 0][..], 4, 3, 3));
     assert_eq!((&pair.s[..], &pair.r[..]), (&[0, 0, 1][..], &[0, 0, 5][..]));
     assert_eq!(document::find(2, 1, &[1], &[0], &[0], &[0]), (0, vec![1], vec![0]));
-    assert_eq!(document::check(3, 2, &[0, 0], &[0, 0], &[0, 1], &[0, 1]), 0);
+    assert_eq!(document::check(3, 2, &[0, 0], &[0, 0], &[0, 1], &[0, 1]), 6);
+    assert_eq!(Session::new().load(3, 2, &[0, 0], &[0, 0]).unwrap().propose(&[0, 1], &[0, 1]), Err(6));
+    assert_eq!(card::fieldcard(&card::card(3, 2, 2, &[0, 0, 0, 0, 0, 1, 0, 1])), "RING\n");
     assert_eq!(document::find(3, 2, &[0, 0], &[0, 0], &[9, 9], &[9, 9]).0, 6);
     assert_eq!(document::find(3, 2, &[2, 0], &[1, 0], &[9, 9], &[9, 9]).0, 6);
     assert_eq!(document::find(3, 2, &[1, 0], &[2, 0], &[9, 9], &[9, 9]).0, 7);
@@ -24,6 +26,7 @@ pub fn hold() {
     assert_eq!(card::card(3, 2, 2, &[1, 0, 2, 1, 1, 2, 1, 2]), [0x00, 0x03, 0x12, 0x49, 0x66]);
     assert_eq!(card::card(7, 3, 1, &[5, 0, 0, 4, 0, 0]), [0x00, 0x07, 0x21, 0xA0, 0x40, 0x00]);
     assert_eq!(card::fieldcard(&[0x00, 0x03, 0x11, 0x49]), "PAIR 0003124966\n");
+    assert_eq!(card::fieldcard(&[0x00, 0x03, 0x12, 0x49, 0x66]), "VALID\n");
     assert!(is_prime(65_521) && !is_prime(65_535) && !is_prime(65_537));
     let (number, out) = sheet::sheet(3, 2, [&[1, 0], &[2, 1], &[1, 2], &[1, 2]], &[0; 240]);
     let lines: Vec<&str> = std::str::from_utf8(&out).unwrap().lines().collect();

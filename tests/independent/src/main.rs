@@ -12,6 +12,7 @@ fn main() {
     examples::hold();
     let mut tally = compare::Tally::default();
     compare::residues::run(12_000 * factor, &mut tally);
+    compare::moduli::run(6_000 * factor, &mut tally);
     compare::pairs::run(12_000 * factor, &mut tally);
     compare::sheets::run(1_000 * factor, &mut tally);
     compare::cards::run(30_000 * factor, &mut tally);

@@ -1,4 +1,6 @@
-//! Inputs: a fixed sequence of pseudo-random numbers (xorshift), and lists of words drawn from it, extremes and damaged ones included.
+//! Inputs: a fixed sequence of pseudo-random numbers (xorshift), and lists of words and moduli drawn from it, extremes and damaged ones included.
+
+use crate::document::{divisor::has_divisor, is_prime};
 
 pub struct Random(u64);
 
@@ -34,7 +36,7 @@ impl Random {
         }
         loop {
             let p = self.below(65_536) as u32;
-            if crate::document::is_prime(p) {
+            if is_prime(p) {
                 return p;
             }
         }
@@ -56,6 +58,23 @@ impl Random {
         } else {
             1 + self.below(16) as u32
         }
+    }
+
+    /// A list of n words, each below p with equal chances.
+    pub fn uniform(&mut self, p: u32, n: u32) -> Vec<u16> {
+        (0..n).map(|_| self.below(p.into()) as u16).collect()
+    }
+
+    /// A modulus that has divisors or has none, as asked; a modulus of degree 1 has none.
+    pub fn modulus(&mut self, p: u32, n: u32, divisors: bool) -> Vec<u16> {
+        let mut t = self.words(p, n, false);
+        if self.once_in(5) {
+            t[1..].fill(0); // X^n + t0
+        }
+        while has_divisor(p, &t) != divisors {
+            t = self.uniform(p, n);
+        }
+        t
     }
 
     /// A list of n words below p; where `damaged` says so, of another length or with a word of p or more once in a while.

@@ -1,6 +1,7 @@
-//! The program `fieldcard`, run on cards of both kinds, damaged ones, refusals of each number that it can give, the longest card, no
-//! input, a closed input, input in parts and input that is too long.
+//! The program `fieldcard`, run on cards of both kinds, damaged ones, pairs over moduli with divisors, refusals of each number that it can give, the
+//! longest card, no input, a closed input, input in parts and input that is too long.
 
+use super::known::{draw_all, Known};
 use super::Tally;
 use crate::document::card;
 use crate::random::Random;
@@ -35,7 +36,15 @@ fn printed_without_input() -> String {
 fn compare(input: &[u8], tally: &mut Tally) {
     let want = card::fieldcard(input);
     let number = want.strip_prefix("REFUSED ").map_or(0, |word| word.trim().parse().unwrap());
-    tally.compare("fieldcard", number, &input, &printed(&[input]), &want);
+    let call = if want == "RING\n" { "fieldcard_ring" } else { "fieldcard" };
+    tally.compare(call, number, &input, &printed(&[input]), &want);
+}
+
+fn compare_known(known: &Known, tally: &mut Tally) {
+    let case = &known.case;
+    let bytes = card::card(case.p, case.n, 2, &[&case.t1[..], &case.t2, &case.s, &case.r].concat());
+    assert_eq!(card::fieldcard(&bytes), format!("{}\n", known.line));
+    compare(&bytes, tally);
 }
 
 fn random_card(random: &mut Random) -> Vec<u8> {
@@ -70,11 +79,18 @@ pub fn run(rounds: u64, tally: &mut Tally) {
     tally.compare("fieldcard", 0, &"short reads", &printed(&parts), &card::fieldcard(&parts.concat()));
     compare(&[0x00, 0x03, 0x11, 0x49], tally);
     compare(&[0x00, 0x03, 0x12, 0x49, 0x66], tally);
+    compare(&[0x00, 0x04, 0x11, 0x49], tally); // 1
+    compare(&[0x00, 0x03, 0x13, 0x49], tally); // 12
+    compare(&[0x00, 0x03, 0x11, 0x4B], tally); // 4
+    compare(&[0x00, 0x07, 0x21, 0xA0, 0x40, 0x01], tally); // 13
     compare(&card::card(65_521, 16, 2, &[1; 64]), tally);
     for length in [130, 131, 132, 133, 5000, 1 << 20] {
         let mut long = card::card(65_521, 16, 2, &[0; 64]);
         long.resize(length, 0);
         compare(&long, tally);
+    }
+    for known in draw_all(random) {
+        compare_known(&known, tally);
     }
     for _ in 0..rounds {
         let bytes = random_card(random);

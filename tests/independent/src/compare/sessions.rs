@@ -1,11 +1,12 @@
 //! Long lists of session calls, refused ones and forged values included; number, whole session and lists are compared after every call, and the
 //! totals of each report with the residues of the conversions that answered 0.
 
+mod proposals;
 mod value;
 
 use super::Tally;
 use crate::document::session::{Held, Session as Document};
-use crate::document::{self, finder, is_prime, polynomial};
+use crate::document::{self, finder, is_prime};
 use crate::library::{self, Record, Session as Value, Step};
 use crate::random::Random;
 use value::{counts_as, forged, value, with_ledger, NEW};
@@ -33,14 +34,8 @@ fn models(random: &mut Random) -> (u32, u32, Vec<u16>, Vec<u16>) {
     let divisors: Vec<u32> = (1..=16).filter(|n| (p - 1) % n == 0).collect();
     let n = if random.once_in(4) { 1 + random.below(16) as u32 } else { divisors[random.below(divisors.len() as u64) as usize] };
     let modulus = |random: &mut Random| {
-        let mut t: Vec<u16> = (0..n).map(|_| random.below(p.into()) as u16).collect();
-        for _ in 0..100 {
-            if !polynomial::has_divisor(p, &t) || random.once_in(100) {
-                break;
-            }
-            t = (0..n).map(|_| random.below(p.into()) as u16).collect();
-        }
-        t
+        let divisors = n > 1 && random.once_in(12);
+        random.modulus(p, n, divisors)
     };
     (p, n, modulus(random), modulus(random))
 }
@@ -70,13 +65,15 @@ impl Calls {
         *self = Calls { current, sums: [session.total(true), session.total(false)] };
     }
 
-    fn step(&mut self, call: &'static str, step: Result<Document, u32>, got: Step, tally: &mut Tally) {
+    /// The number on which both sides agree.
+    fn step(&mut self, call: &'static str, step: Result<Document, u32>, got: Step, tally: &mut Tally) -> u32 {
         let want = match step {
             Ok(next) => Step { number: 0, session: value(&self.current, &next) },
             Err(number) => Step { number, session: self.current },
         };
         tally.compare(call, want.number, &self.current, &got, &want);
         self.current = got.session;
+        got.number
     }
 
     fn load(&mut self, p: u32, n: u32, t1: &[u16], t2: &[u16], tally: &mut Tally) {
@@ -84,9 +81,9 @@ impl Calls {
         self.step("session_load", want, library::load(self.current, p, n, t1, t2), tally);
     }
 
-    fn propose(&mut self, s: &[u16], r: &[u16], tally: &mut Tally) {
+    fn propose(&mut self, s: &[u16], r: &[u16], tally: &mut Tally) -> u32 {
         let want = counts_as(&self.current).propose(s, r);
-        self.step("session_propose", want, library::propose(self.current, s, r), tally);
+        self.step("session_propose", want, library::propose(self.current, s, r), tally)
     }
 
     fn find(&mut self, tally: &mut Tally) {
@@ -97,8 +94,8 @@ impl Calls {
         self.step("session_clear", Ok(counts_as(&self.current).clear()), library::clear(self.current), tally);
     }
 
-    /// A conversion leaves all else of the value as it was, what does not count included.
-    fn convert(&mut self, forward: bool, table: &[u16], mut output: Vec<u16>, tally: &mut Tally) {
+    /// A conversion leaves all else of the value as it was, what does not count included. What the output list then holds.
+    fn convert(&mut self, forward: bool, table: &[u16], mut output: Vec<u16>, tally: &mut Tally) -> Vec<u16> {
         let taken = self.current;
         let want = match counts_as(&taken).convert(forward, table, output.len()) {
             Ok((image, next)) => (Step { number: 0, session: with_ledger(&taken, &next) }, image),
@@ -110,6 +107,7 @@ impl Calls {
             self.sums[usize::from(!forward)] += table.len() as u64 / u64::from(taken.n);
         }
         self.current = got.0.session;
+        got.1
     }
 
     /// The report into lists of its length, one too short and one too long.
@@ -150,7 +148,7 @@ impl Calls {
             2 => {
                 let words = |random: &mut Random| random.words(p.max(2), n.clamp(1, 16), true);
                 let (s, r) = match counts_as(&self.current).held {
-                    Held::Loaded { p, n, t1, t2 } if document::field_number(p, n, &t1, &t2) == 0 => {
+                    Held::Loaded { p, n, t1, t2 } if document::finder_number(p, n, &t1, &t2) == 0 => {
                         let pair = finder::pair(p, &t1, &t2);
                         (pair.s, pair.r)
                     }
@@ -218,6 +216,7 @@ fn largest_total(tally: &mut Tally) {
 pub fn run(number: u64, tally: &mut Tally) {
     full_ledger(tally);
     largest_total(tally);
+    proposals::run(tally);
     let random = &mut Random::new(0x94d0_49bb_1331_11eb);
     let mut calls = Calls::new(tally);
     let mut forging = true;

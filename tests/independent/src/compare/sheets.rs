@@ -1,13 +1,15 @@
 //! The printed sheet: of pairs that are accepted, with words around p/2, and of pairs and output lists that are not.
 
-use super::pairs::{changed_variable, damage, draw, Case};
+use super::case::{changed_variable, damage, draw, Case};
+use super::known::draw_all;
 use super::Tally;
-use crate::document::sheet as document;
+use crate::document::{divisor::has_divisor, sheet as document};
 use crate::library;
 use crate::random::Random;
 use yokebean::{sheet, sheet_length, Size};
 
-fn compare_sheet(case: &Case, length: usize, tally: &mut Tally) {
+/// The number on which both sides agree.
+fn compare_sheet(case: &Case, length: usize, tally: &mut Tally) -> u32 {
     let Case { p, n, t1, t2, s, r } = case;
     let lists: [&[u16]; 4] = [t1, t2, s, r];
     let lent = vec![b'#'; length];
@@ -18,12 +20,18 @@ fn compare_sheet(case: &Case, length: usize, tally: &mut Tally) {
         assert_eq!(document::read(*p, *n, &out), lists.map(<[u16]>::to_vec), "the sheet shows other lists");
     }
     tally.compare("sheet", want.0, &(p, n, lists, length), &(number, out), &want);
+    number
 }
 
-/// A modulus whose words lie around p/2 and at the ends.
+/// An irreducible modulus whose words lie around p/2 and at the ends.
 fn around_half(random: &mut Random, p: u32, n: u32) -> Vec<u16> {
     let words = [p / 2, p / 2 + 1, p / 2 + 2, (p / 2).saturating_sub(1), 0, 1, p - 1];
-    (0..n).map(|_| (words[random.below(7) as usize] % p) as u16).collect()
+    loop {
+        let t: Vec<u16> = (0..n).map(|_| (words[random.below(7) as usize] % p) as u16).collect();
+        if !has_divisor(p, &t) {
+            return t;
+        }
+    }
 }
 
 fn wrong_length(random: &mut Random, length: usize) -> usize {
@@ -41,6 +49,9 @@ pub fn run(rounds: u64, tally: &mut Tally) {
                 compare_sheet(&case, wrong_length(random, sheet_length(n)), tally);
             }
         }
+    }
+    for known in draw_all(random) {
+        assert_eq!(compare_sheet(&known.case, sheet_length(known.case.n), tally), known.number);
     }
     for _ in 0..rounds {
         let mut case = draw(random);

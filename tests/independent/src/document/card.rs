@@ -1,6 +1,6 @@
 //! Field cards as strings of bits.
 
-use super::{first, is_prime, list_number, model_number};
+use super::{congruences, field_number, finder, finder_number, first, is_prime, list_number, model_number};
 
 /// The number of binary digits of p − 1.
 fn width(p: u32) -> usize {
@@ -78,23 +78,35 @@ pub fn read(card: &[u8], lent: usize) -> Result<Card, u32> {
     Ok(Card { p, n, kind, words })
 }
 
+fn job_answer(p: u32, n: u32, t1: &[u16], t2: &[u16]) -> Result<String, u32> {
+    match finder_number(p, n, t1, t2) {
+        0 => {
+            let pair = finder::pair(p, t1, t2);
+            let bytes = card(p, n, 2, &[t1, t2, &pair.s, &pair.r].concat());
+            Ok(format!("PAIR {}", bytes.iter().map(|byte| format!("{byte:02X}")).collect::<String>()))
+        }
+        refusal => Err(refusal),
+    }
+}
+
+/// Of cards over moduli with divisors "the program prints `RING` and a newline for one whose four congruences hold, and refuses with 6 or 7 otherwise".
+fn pair_answer(p: u32, t1: &[u16], t2: &[u16], s: &[u16], r: &[u16]) -> Result<String, u32> {
+    match (field_number(p, t1, t2), congruences(p, t1, t2, s, r)) {
+        (0, true) => Ok("VALID".to_string()),
+        (0, false) => Err(8),
+        (_, true) => Ok("RING".to_string()),
+        (refusal, false) => Err(refusal),
+    }
+}
+
 /// What the program `fieldcard` prints for its standard input.
 pub fn fieldcard(input: &[u8]) -> String {
-    let answer = read(input, 64).and_then(|card| {
-        let n = card.n as usize;
-        let (t1, t2) = (&card.words[..n], &card.words[n..2 * n]);
-        if card.kind == 2 {
-            let (s, r) = (&card.words[2 * n..3 * n], &card.words[3 * n..]);
-            return if super::congruences(card.p, t1, t2, s, r) { Ok("VALID".to_string()) } else { Err(8) };
-        }
-        match super::field_number(card.p, card.n, t1, t2) {
-            0 => {
-                let pair = super::finder::pair(card.p, t1, t2);
-                let words = [t1, t2, &pair.s, &pair.r].concat();
-                let bytes = self::card(card.p, card.n, 2, &words);
-                Ok(format!("PAIR {}", bytes.iter().map(|byte| format!("{byte:02X}")).collect::<String>()))
-            }
-            refusal => Err(refusal),
+    let answer = read(input, 64).and_then(|Card { p, n, words, .. }| {
+        let lists: Vec<&[u16]> = words.chunks(n as usize).collect();
+        match lists[..] {
+            [t1, t2] => job_answer(p, n, t1, t2),
+            [t1, t2, s, r] => pair_answer(p, t1, t2, s, r),
+            _ => unreachable!("a card has two lists or four"),
         }
     });
     answer.unwrap_or_else(|number| format!("REFUSED {number}")) + "\n"

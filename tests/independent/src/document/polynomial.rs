@@ -11,7 +11,7 @@ fn trimmed(mut f: Polynomial) -> Polynomial {
 
 /// a^k modulo p, for a word a.
 pub fn power(p: u64, a: u64, k: u64) -> u64 {
-    (0..64).rev().fold(1 % p, |value, bit| {
+    (0..64 - k.leading_zeros()).rev().fold(1 % p, |value, bit| {
         let square = value * value % p;
         if k >> bit & 1 == 1 {
             square * a % p
@@ -35,7 +35,8 @@ pub fn remainder(p: u64, f: &[u64], g: &[u64]) -> Polynomial {
     f
 }
 
-fn common_divisor(p: u64, f: &[u64], g: &[u64]) -> Polynomial {
+/// The greatest common divisor of f and g, up to a constant factor.
+pub fn common_divisor(p: u64, f: &[u64], g: &[u64]) -> Polynomial {
     let (mut f, mut g) = (trimmed(f.to_vec()), trimmed(g.to_vec()));
     while !g.is_empty() {
         (f, g) = (g.clone(), remainder(p, &f, &g));
@@ -43,37 +44,27 @@ fn common_divisor(p: u64, f: &[u64], g: &[u64]) -> Polynomial {
     f
 }
 
-fn product(p: u64, f: &[u64], g: &[u64], modulus: &[u64]) -> Polynomial {
+pub fn product(p: u64, f: &[u64], g: &[u64]) -> Polynomial {
     let mut h = vec![0; f.len() + g.len()];
     for (i, &a) in f.iter().enumerate() {
         for (j, &b) in g.iter().enumerate() {
             h[i + j] = (h[i + j] + a * b) % p;
         }
     }
-    remainder(p, &h, modulus)
+    trimmed(h)
 }
 
-/// Whether the monic polynomial with the lower words t has a monic divisor of degree 1 to n − 1: for some d up to n/2 it has a common
-/// divisor with X^(p^d) − X, the product of all monic polynomials without divisors whose degree divides d.
-pub fn has_divisor(p: u32, t: &[u16]) -> bool {
-    let p = u64::from(p);
-    let modulus: Polynomial = t.iter().map(|&c| c.into()).chain([1]).collect();
-    let mut conjugate = remainder(p, &[0, 1], &modulus);
-    for _ in 1..=t.len() / 2 {
-        let mut next = vec![1];
-        for bit in (0..17).rev() {
-            next = product(p, &next, &next, &modulus);
-            if p >> bit & 1 == 1 {
-                next = product(p, &next, &conjugate, &modulus);
-            }
-        }
-        conjugate = next;
-        let mut difference = conjugate.clone();
-        difference.resize(difference.len().max(2), 0);
-        difference[1] = (difference[1] + p - 1) % p;
-        if common_divisor(p, &difference, &modulus).len() != 1 {
-            return true;
-        }
-    }
-    false
+/// The monic polynomial with the lower words t.
+pub fn monic(t: &[u16]) -> Polynomial {
+    t.iter().map(|&c| c.into()).chain([1]).collect()
+}
+
+/// The lower words of a monic polynomial.
+pub fn lower_words(f: &[u64]) -> Vec<u16> {
+    f[..f.len() - 1].iter().map(|&c| c as u16).collect()
+}
+
+/// All lists of n words below p.
+pub fn all_lists(p: u32, n: u32) -> impl Iterator<Item = Vec<u16>> {
+    (0..p.pow(n)).map(move |code| (0..n).map(|k| (code / p.pow(k) % p) as u16).collect())
 }

@@ -1,6 +1,6 @@
 //! The session as a value: what is held, with the models and the pair in vectors, and the ledger of request S-2 as a list of its records.
 
-use super::{check, field_number, finder, first, list_number, model::Model, model_number};
+use super::{check, finder, finder_number, first, list_number, model::Model, model_number};
 
 #[derive(Clone, Debug, PartialEq)]
 pub enum Held {
@@ -57,7 +57,7 @@ impl Session {
         match &self.held {
             Held::Empty => Err(21),
             Held::Paired { .. } => Err(24),
-            Held::Loaded { p, n, t1, t2 } => self.accepted(field_number(*p, *n, t1, t2), || {
+            Held::Loaded { p, n, t1, t2 } => self.accepted(finder_number(*p, *n, t1, t2), || {
                 let pair = finder::pair(*p, t1, t2);
                 self.held.with_pair(pair.s, pair.r)
             }),

@@ -1,6 +1,6 @@
 //! The printed sheet of request S-1, written with Rust's own formatting, and read back by its columns.
 
-use super::{congruences, first, model_number};
+use super::{first, model_number, pair_number};
 
 const NAMES: [&str; 4] = ["T1", "T2", "S", "R"];
 
@@ -33,7 +33,7 @@ pub fn sheet(p: u32, n: u32, lists: [&[u16]; 4], out: &[u8]) -> (u32, Vec<u8>) {
     let lines = 4 * ((n as usize + 7) / 8);
     let wrong_length = || u32::from(out.len() != 60 * lines || lists.iter().any(|list| list.len() != n as usize)) * 3;
     let large_word = || u32::from(lists.iter().any(|list| list.iter().any(|&v| u32::from(v) >= p))) * 4;
-    let no_pair = || u32::from(!congruences(p, lists[0], lists[1], lists[2], lists[3])) * 8;
+    let no_pair = || pair_number(p, lists[0], lists[1], lists[2], lists[3]);
     match first(&[&|| model_number(p, n), &wrong_length, &large_word, &no_pair]) {
         0 => (0, text(p, lists).into_bytes()),
         refusal => (refusal, out.to_vec()),
