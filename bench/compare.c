@@ -1,5 +1,5 @@
 /* Compares the answers of all who do a work, before anything is timed, and ends the program at the first that differs. A pair found is not
- * compared with another, as a field has several, but judged: each peer works out the four congruences. */
+ * compared with another, as a field has several, but judged: each peer checks it. */
 #include "rows.h"
 #include "yokebean.h"
 #include <stdarg.h>
@@ -7,8 +7,8 @@
 #include <stdlib.h>
 #include <string.h>
 
-static const char *const names[WORKS] = {"FIND",  "CHECK", "CONVERT", "product", "power", "substitute", "read a card", "write a card",
-                                         "power", "power"};
+static const char *const names[WORKS] = {"FIND",       "CHECK",       "IRREDUCIBLE",  "CONVERT", "product", "power",
+                                         "substitute", "read a card", "write a card", "power",   "power"};
 
 static void fail(const inputs *in, int what, size_t k, const char *why, ...) {
     va_list rest;
@@ -28,18 +28,16 @@ static size_t answer(const inputs *in, const peer *who, int what, size_t k, uint
     return count;
 }
 
-/* Everyone must accept the pairs that `finder` found, or refuse them all if it is null. */
-static void judge(const inputs *in, const peer *finder) {
+/* Everyone must answer `right`, 1 or 0, to all jobs; `maker` is who or what made them. */
+static void judge(const inputs *in, int what, uint16_t right, const char *maker) {
     for (size_t i = 0; i < PEERS; i++)
-        if (peers[i]->works[CHECK].run) {
+        if (peers[i]->works[what].run) {
             peers[i]->prepare(in);
             for (size_t k = 0; k < in->jobs; k++) {
-                uint16_t accepted;
-                answer(in, peers[i], CHECK, k, &accepted);
-                if (finder && !accepted)
-                    fail(in, CHECK, k, "%s: refuses the pair found by %s", peers[i]->name, finder->name);
-                if (!finder && accepted)
-                    fail(in, CHECK, k, "%s: accepts a pair made wrong", peers[i]->name);
+                uint16_t given;
+                answer(in, peers[i], what, k, &given);
+                if (given != right)
+                    fail(in, what, k, "%s: %s what was made by %s", peers[i]->name, right ? "refuses" : "accepts", maker);
             }
         }
 }
@@ -56,7 +54,7 @@ static void compare_found(const inputs *in) {
                 memcpy(found.job[k].s, pair, in->n * sizeof *pair);
                 memcpy(found.job[k].r, pair + in->n, in->n * sizeof *pair);
             }
-            judge(&found, peers[i]);
+            judge(&found, CHECK, 1, peers[i]->name);
         }
 }
 
@@ -71,7 +69,15 @@ static void compare_refused(const inputs *in) {
         else
             j->s[0] = (uint16_t)((j->s[0] + 1) % in->p);
     }
-    judge(&wrong, NULL);
+    judge(&wrong, CHECK, 0, "changing S or R");
+}
+
+static void compare_moduli(const inputs *in) {
+    static inputs reducible;
+    choose_reducible(in, &reducible);
+    judge(in, IRREDUCIBLE, 1, "drawing until PARI accepts");
+    judge(&reducible, IRREDUCIBLE, 0, "multiplying two factors");
+    judge(&reducible, CHECK, 0, "multiplying two factors");
 }
 
 static void compare_words(const inputs *in, int what) {
@@ -94,6 +100,7 @@ static void compare_words(const inputs *in, int what) {
 void compare(const inputs *in) {
     compare_found(in);
     compare_refused(in);
+    compare_moduli(in);
     for (int what = CONVERT; what < WORKS; what++)
         compare_words(in, what);
 }

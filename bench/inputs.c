@@ -1,4 +1,5 @@
-/* The inputs of a row: random irreducible moduli, the same in every run, and the pairs that our finder gives for them. */
+/* The inputs of a row: random irreducible moduli, the same in every run, and the pairs that our finder gives for them. Beside them reducible
+ * moduli, which are compared and not timed. */
 #include "rows.h"
 #include "yokebean.h"
 #include <stdio.h>
@@ -63,4 +64,38 @@ void choose(const row *which, inputs *in) {
         }
     }
     random_words(in->p, in->words, in->table);
+}
+
+/* A monic factor with its leading 1, irreducible or any. */
+static void random_factor(uint32_t p, uint32_t degree, int irreducible, uint16_t *f) {
+    if (irreducible)
+        random_modulus(p, degree, f);
+    else
+        random_words(p, degree, f);
+    f[degree] = 1;
+}
+
+static void random_product(uint32_t p, uint32_t n, uint32_t degree, int irreducible, uint16_t *t) {
+    uint16_t f[LARGEST_DEGREE], g[LARGEST_DEGREE];
+    uint64_t product[LARGEST_DEGREE + 1] = {0};
+    random_factor(p, degree, irreducible, f), random_factor(p, n - degree, irreducible, g);
+    for (uint32_t i = 0; i <= degree; i++)
+        for (uint32_t j = 0; j <= n - degree; j++)
+            product[i + j] += (uint64_t)f[i] * g[j];
+    for (uint32_t i = 0; i < n; i++)
+        t[i] = (uint16_t)(product[i] % p);
+}
+
+/* As many jobs with the same p and n, n above 1: T1 is the product of two factors, in turn irreducible and any, T2 is T1(-X) made monic, and
+ * S = R = -X, so that the four congruences hold and only the moduli are to be refused. */
+void choose_reducible(const inputs *in, inputs *out) {
+    memset(out, 0, sizeof *out);
+    out->p = in->p, out->n = in->n, out->words = in->n, out->jobs = in->jobs;
+    for (size_t k = 0; k < in->jobs; k++) {
+        job *j = &out->job[k];
+        random_product(in->p, in->n, 1 + (uint32_t)k / 2 % (in->n - 1), k % 2 == 0, j->t1);
+        for (uint32_t i = 0; i < in->n; i++)
+            j->t2[i] = (uint16_t)((in->n - i) % 2 ? (in->p - j->t1[i]) % in->p : j->t1[i]);
+        j->s[1] = j->r[1] = (uint16_t)(in->p - 1);
+    }
 }

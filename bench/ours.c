@@ -29,6 +29,8 @@ static void check(size_t k) {
     number = yokebean_check(p, n, j->t1, n, j->t2, n, j->s, n, j->r, n);
 }
 
+static void irreducible(size_t k) { number = yokebean_irreducible(p, n, in->job[k].t1, n); }
+
 static void convert(size_t k) { number = yokebean_session_forward(session[k], in->table, in->words, image, in->words).number; }
 
 static void product(size_t k) {
@@ -83,7 +85,7 @@ static size_t card_written(uint16_t *out) {
 }
 
 const peer ours = {"ours", prepare, {
-    [FIND] = {find, pair}, [CHECK] = {check, accepted}, [CONVERT] = {convert, table}, [PRODUCT] = {product, residue},
-    [POWER] = {power, residue}, [SUBSTITUTE] = {substitute, residue}, [READ] = {read_card, card_read}, [WRITE] = {write_card, card_written},
-    [LONG] = {long_power, residue}, [SHORT] = {short_power, residue},
+    [FIND] = {find, pair}, [CHECK] = {check, accepted}, [IRREDUCIBLE] = {irreducible, accepted}, [CONVERT] = {convert, table},
+    [PRODUCT] = {product, residue}, [POWER] = {power, residue}, [SUBSTITUTE] = {substitute, residue}, [READ] = {read_card, card_read},
+    [WRITE] = {write_card, card_written}, [LONG] = {long_power, residue}, [SHORT] = {short_power, residue},
 }};

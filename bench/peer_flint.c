@@ -1,10 +1,12 @@
-/* FLINT: for each work the call that is fastest at its degree, which from degree 8 is the one with a prepared inverse; a table is converted by
- * nmod_mat_mul, the table times the matrix of the powers of S. */
+/* FLINT: for each work the call that is fastest at its size, which from degree 8 is the one with a prepared inverse; a table is converted by
+ * nmod_mat_mul, the table times the matrix of the powers of S; a modulus is tested by FLINT's default, the degrees of its factors, and at the
+ * smallest sizes by Rabin's test. */
 #include "peers.h"
 #include <flint/nmod_mat.h>
 #include <flint/nmod_poly.h>
+#include <flint/nmod_poly_factor.h>
 
-enum { PREPARED_FROM = 8 };
+enum { PREPARED_FROM = 8 /* n */, RABIN_BELOW = 22 /* p·n */ };
 
 typedef struct {
     nmod_poly_t t1, t2, inverse1, inverse2, s, r, u, v, x1, x2;
@@ -86,10 +88,15 @@ static void evaluate(const nmod_poly_t f, const nmod_poly_t s, const nmod_poly_t
         nmod_poly_compose_mod_brent_kung_preinv(value, f, s, t, inverse);
 }
 
+static int test(const nmod_poly_t t) { return p * n < RABIN_BELOW ? nmod_poly_is_irreducible_rabin(t) : nmod_poly_is_irreducible(t); }
+
+static void irreducible(size_t k) { right = test(form[k].t1); }
+
 static void check(size_t k) {
     const forms *f = &form[k];
+    right = test(f->t1) && test(f->t2);
     nmod_poly_compose_mod(value, f->t1, f->s, f->t2);
-    right = nmod_poly_is_zero(value);
+    right &= nmod_poly_is_zero(value);
     nmod_poly_compose_mod(value, f->t2, f->r, f->t1);
     right &= nmod_poly_is_zero(value);
     evaluate(f->s, f->r, f->t1, f->inverse1);
@@ -137,6 +144,6 @@ static size_t accepted(uint16_t *out) {
 }
 
 const peer flint = {"FLINT", prepare, {
-    [CHECK] = {check, accepted}, [CONVERT] = {convert, converted}, [PRODUCT] = {product, residue}, [POWER] = {power, residue},
-    [SUBSTITUTE] = {substitute, residue},
+    [CHECK] = {check, accepted}, [IRREDUCIBLE] = {irreducible, accepted}, [CONVERT] = {convert, converted}, [PRODUCT] = {product, residue},
+    [POWER] = {power, residue}, [SUBSTITUTE] = {substitute, residue},
 }};

@@ -1,6 +1,8 @@
-// NTL: CompMod substitutes modulo a prepared modulus; a table is converted by mul, the table times the matrix of the powers of S.
+// NTL: CompMod substitutes modulo a prepared modulus; a table is converted by mul, the table times the matrix of the powers of S; IterIrredTest
+// is the faster of the two tests that do not err.
 #include "peers.h"
 #include <NTL/lzz_pX.h>
+#include <NTL/lzz_pXFactoring.h>
 #include <NTL/mat_lzz_p.h>
 
 using namespace NTL;
@@ -76,10 +78,12 @@ bool is_root(const zz_pX &t, const zz_pX &s, const zz_pXModulus &modulus) {
     return IsZero(low + high);
 }
 
+void irreducible(size_t k) { prepared->right = IterIrredTest(prepared->form[k].t1); }
+
 void check(size_t k) {
     const Forms &f = prepared->form[k];
     zz_pX value;
-    bool right = is_root(f.t1, f.s, f.modulus2) && is_root(f.t2, f.r, f.modulus1);
+    bool right = IterIrredTest(f.t1) && IterIrredTest(f.t2) && is_root(f.t1, f.s, f.modulus2) && is_root(f.t2, f.r, f.modulus1);
     CompMod(value, f.s, f.r, f.modulus1);
     right = right && value == f.x1;
     CompMod(value, f.r, f.s, f.modulus2);
@@ -124,7 +128,7 @@ const work none = {nullptr, nullptr};
 }
 
 extern "C" const peer ntl = {"NTL", prepare, {
-    /* FIND */ none, /* CHECK */ {check, accepted}, /* CONVERT */ {convert, converted}, /* PRODUCT */ {product, residue},
-    /* POWER */ {power, residue}, /* SUBSTITUTE */ {substitute, residue},
+    /* FIND */ none, /* CHECK */ {check, accepted}, /* IRREDUCIBLE */ {irreducible, accepted}, /* CONVERT */ {convert, converted},
+    /* PRODUCT */ {product, residue}, /* POWER */ {power, residue}, /* SUBSTITUTE */ {substitute, residue},
     /* READ */ none, /* WRITE */ none, /* LONG */ none, /* SHORT */ none,
 }};

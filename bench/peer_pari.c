@@ -1,5 +1,6 @@
-/* PARI: Flx_ffisom finds an isomorphism, Flxq_ffisom_inv its inverse; Flx_Flxq_eval substitutes. Its prepared form of a modulus of these degrees
- * is the modulus itself. */
+/* PARI: Flx_ffisom finds an isomorphism, Flxq_ffisom_inv its inverse; Flx_Flxq_eval substitutes; Flx_is_irred tests a modulus as
+ * polisirreducible does, by the degrees of its factors, but without conversions. Its prepared form of a modulus of these degrees is the modulus
+ * itself. */
 #include "peers.h"
 #include <pari/pari.h>
 
@@ -54,9 +55,15 @@ static void find(size_t k) {
     back = Flxq_ffisom_inv(value, t2[k], p);
 }
 
+static void irreducible(size_t k) {
+    set_avma(prepared);
+    right = Flx_is_irred(t1[k], p);
+}
+
 static void check(size_t k) {
     set_avma(prepared);
-    right = lgpol(Flx_Flxq_eval(t1[k], s[k], t2[k], p)) == 0 && lgpol(Flx_Flxq_eval(t2[k], r[k], t1[k], p)) == 0
+    right = Flx_is_irred(t1[k], p) && Flx_is_irred(t2[k], p)
+            && lgpol(Flx_Flxq_eval(t1[k], s[k], t2[k], p)) == 0 && lgpol(Flx_Flxq_eval(t2[k], r[k], t1[k], p)) == 0
             && Flx_equal(Flx_Flxq_eval(s[k], r[k], t1[k], p), Flx_rem(x, t1[k], p))
             && Flx_equal(Flx_Flxq_eval(r[k], s[k], t2[k], p), Flx_rem(x, t2[k], p));
 }
@@ -97,6 +104,6 @@ static size_t accepted(uint16_t *out) {
 }
 
 const peer pari = {"PARI", prepare, {
-    [FIND] = {find, pair}, [CHECK] = {check, accepted}, [PRODUCT] = {product, residue}, [POWER] = {power, residue},
-    [SUBSTITUTE] = {substitute, residue},
+    [FIND] = {find, pair}, [CHECK] = {check, accepted}, [IRREDUCIBLE] = {irreducible, accepted}, [PRODUCT] = {product, residue},
+    [POWER] = {power, residue}, [SUBSTITUTE] = {substitute, residue},
 }};

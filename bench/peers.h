@@ -31,17 +31,18 @@ typedef struct {
 } inputs;
 
 /* The works and their answers in words:
- *   FIND        a pair: S, then R
- *   CHECK       whether the four congruences hold: 1 or 0
- *   CONVERT     the table's image
- *   PRODUCT     u·v modulo T2
- *   POWER       u^EXPONENT modulo T2
- *   SUBSTITUTE  u(S) modulo T2
- *   READ        p, n, kind and the 64 words of a card
- *   WRITE       the bytes of a card
- *   LONG        u^(2^60) modulo T2
- *   SHORT       u^(2^12) modulo T2, which takes BETWEEN products fewer */
-enum { FIND, CHECK, CONVERT, PRODUCT, POWER, SUBSTITUTE, READ, WRITE, LONG, SHORT, WORKS };
+ *   FIND         a pair: S, then R
+ *   CHECK        whether T1 and T2 are irreducible and the four congruences hold: 1 or 0
+ *   IRREDUCIBLE  whether T1 is irreducible: 1 or 0
+ *   CONVERT      the table's image
+ *   PRODUCT      u·v modulo T2
+ *   POWER        u^EXPONENT modulo T2
+ *   SUBSTITUTE   u(S) modulo T2
+ *   READ         p, n, kind and the 64 words of a card
+ *   WRITE        the bytes of a card
+ *   LONG         u^(2^60) modulo T2
+ *   SHORT        u^(2^12) modulo T2, which takes BETWEEN products fewer */
+enum { FIND, CHECK, IRREDUCIBLE, CONVERT, PRODUCT, POWER, SUBSTITUTE, READ, WRITE, LONG, SHORT, WORKS };
 enum { BETWEEN = 60 - 12 };
 
 /* `run` does the work of the k-th job and keeps the answer in the peer's own form, where the compiler cannot tell that nobody reads it;

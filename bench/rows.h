@@ -23,6 +23,7 @@ enum { PEERS = 6 };
 extern const peer *const peers[PEERS];
 
 void choose(const row *, inputs *);
+void choose_reducible(const inputs *, inputs *);
 void compare(const inputs *);
 size_t time_row(const row *, const inputs *, times *);
 void print_header(void);
