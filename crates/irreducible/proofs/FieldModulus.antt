@@ -56,7 +56,7 @@ module _ {p n : ℕ} {t : List ℕ} (prime : Prime p) (wt : Words p (suc n) t) w
     divisor = (
       d ++ 1 ∷ replicate (n - suc m) 0,
       let size : suc m + suc (n - suc m) ≡ suc n = omega arith in
-      subst (λ k. Words p k (d ++ 1 ∷ replicate (n - suc m) 0)) size (append-words wd (more (prime .0) (zeros-words (n - suc m) (omega (arith, prime .0))))),
+          subst (λ k. Words p k (d ++ 1 ∷ replicate (n - suc m) 0)) size (append-words wd (more (prime .0) (zeros-words (n - suc m) (omega (arith, prime .0))))),
     )
 
     divisor-vanishes : φ divisor ≡ L .zero

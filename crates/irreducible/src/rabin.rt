@@ -43,7 +43,8 @@ fn passes(d: Barrett, n: usize, t: &[u64; 16], m: &[u64; 256], q: usize) -> bool
     if n % q != 0 {
         return true;
     }
-    let w = difference(d, n, t, m, n / q);
+    let k = n / q;
+    let w = difference(d, n, t, m, k);
     has_inverse(d, n, t, &w)
 }
 

@@ -34,14 +34,7 @@ fn refusal(p: u32, n: u32, t1: &[Word], t2: &[Word], s: &[Word], r: &[Word]) -> 
 }
 
 // Whether the four congruences hold, for lists to which 1 to 4 do not apply.
-pub fn congruences_hold(
-    p: u32,
-    n: u32,
-    t1: &[Word],
-    t2: &[Word],
-    s: &[Word],
-    r: &[Word],
-) -> bool
+pub fn congruences_hold(p: u32, n: u32, t1: &[Word], t2: &[Word], s: &[Word], r: &[Word]) -> bool
     requires { ⌜ Given p n (now t1) (now t2) (now s) (now r) ⌝ }
     ensures { λ b. ⌜ b ≡ acceptsPair p (now (t1 .entry)) (now (t2 .entry)) (now (s .entry)) (now (r .entry)) ⌝ }
 {

@@ -31,8 +31,8 @@ pub one-holds : (p n : ℕ) → Prime p → 1 ≤ n → n ≤ 16 → Holds p n (
 one-holds p n prime some short = holds-is (constant-array n 1 some short) (constant-words n (prime .0))
 
 -- what elimination requires of the matrix
-pub multiples-square : (p n : ℕ) (t w m : List ℕ) → n ≤ 16 → Multiples p n t w m → Square p n m
-multiples-square p n t w m short h = record { size = h .square .size; below = λ i j li lj. h .square .below i j (omega arith) (omega arith) }
+pub multiples-square : (p n k : ℕ) (t w m : List ℕ) → k ≤ 16 → Multiples p n t w m → Square p k m
+multiples-square p n k t w m short h = record { size = h .square .size; below = λ i j li lj. h .square .below i j (omega arith) (omega arith) }
 
 module _ {p n : ℕ} {t w m : List ℕ} (big : 2 ≤ p) (wt : Words p n t) (ww : Words p n w) (h : Multiples p n t w m) where
   -- a solution of M·v = b satisfies v·w = b

@@ -9,9 +9,8 @@ use native.Mathlib.Nat.{mod-eq-of-lt}
 use native.Mathlib.Omega.{arith}
 use lib.Dec.{eqb}
 use borrow.Author.Tests.{eqb-true}
-use Rattle.algebra.specs.Lists.{All, Member, all, range}
+use Rattle.algebra.specs.Lists.{Member, all, range}
 use Rattle.algebra.specs.Prime.{Prime}
-use Rattle.algebra.proofs.Lists.{all-member, member-all}
 use Rattle.algebra.proofs.Search.{member-of-all, range-member}
 use Rattle.modular.specs.Prime.{isPrime}
 use Rattle.modular.proofs.IsPrime.{prime-of-test, test-of-prime}
@@ -56,6 +55,3 @@ divisor-small n q some h = by-order (decLe q n)
     by-order : Dec (q ≤ n) → q ≤ n
     by-order (yes l) = l
     by-order (no g) = let less : n < q = omega arith in absurd (omega (arith, mod-eq-of-lt less))
-
-pub primes-positive : All (_<_ 0) primes
-primes-positive = member-all (_<_ 0) primes (λ q m. let (low, _) = listed-prime q m in omega arith)

@@ -11,7 +11,7 @@ array-write-one : tie.Need-array-write-one
 array-write-one c = search needs
 
 solve-requires : tie.Need-solve-requires
-solve-requires c κs = (search needs, (search needs, (search multiples-square, search one-holds)))
+solve-requires c κs = (search needs, (search needs, (search (multiples-square, needs), search (one-holds, needs))))
 
 returns : tie.Need-returns
 returns c = search regular-decides

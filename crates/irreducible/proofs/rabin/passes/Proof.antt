@@ -10,8 +10,8 @@ rem-if1 c = search needs
 returns : tie.Need-returns
 returns c = search passes-vacuous
 
-div-difference : tie.Need-div-difference
-div-difference c = search needs
+div-k : tie.Need-div-k
+div-k c = search needs
 
 difference-requires : tie.Need-difference-requires
 difference-requires c κs = search needs
@@ -25,4 +25,4 @@ returns-2 c = search passes-decides
 pub passes-spec : {M : Type 1} → statement M
 passes-spec =
     tie.close
-    (tie.spec rem-if1 returns div-difference difference-requires has-inverse-requires returns-2)
+    (tie.spec rem-if1 returns div-k difference-requires has-inverse-requires returns-2)

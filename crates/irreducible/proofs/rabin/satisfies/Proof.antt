@@ -2,7 +2,7 @@
 use borrow.Author.Needs.{needs}
 use Rattle.irreducible.proofs.rabin.satisfies.Statement.{statement}
 use Rattle.irreducible.proofs.rabin.satisfies.Tie as tie
-use Rattle.irreducible.proofs.rabin.Primes.{primes-positive}
+use lib.Dec.{lit<}
 use Rattle.irreducible.proofs.rabin.Decision.{not-fixed, passes-decide}
 
 frobenius-requires : tie.Need-frobenius-requires
@@ -18,7 +18,7 @@ slice-aggregate-passes-each : tie.Need-slice-aggregate-passes-each
 slice-aggregate-passes-each c = search needs
 
 passes-each-requires : tie.Need-passes-each-requires
-passes-each-requires c κs = (search needs, (search needs, (search primes-positive, search needs)))
+passes-each-requires c κs = (search needs, (search needs, ((lit< tt, (lit< tt, (lit< tt, (lit< tt, (lit< tt, (lit< tt, tt)))))), search needs)))
 
 returns-2 : tie.Need-returns-2
 returns-2 c = search passes-decide
