@@ -12,9 +12,8 @@ use crate::vector::is_constant;
 use crate::vector::normalise;
 use linear::system::Solution;
 use linear::system::solve;
-use matrix::powers::powers;
+use matrix::frobenius::frobenius;
 use modular::word::sub;
-use residue::ring::frobenius_of_x;
 use residue::ring::power;
 
 // Makes the matrix m the matrix m − z.
@@ -31,7 +30,7 @@ fn minus(p: u64, n: usize, z: u64, m: &mut [u64; 256])
     }
 }
 
-// The kernel of u ↦ u^p − z·u: u^p is u(X^p), so the powers of X^p are the columns of u ↦ u^p. The system is written into the array m.
+// The kernel of u ↦ u^p − z·u. The system is written into the array m.
 fn kernel(p: u64, n: usize, z: u64, t: &[u64; 16], m: &mut [u64; 256]) -> Solution
     requires { ⌜ Prime p ⌝ }
     requires { ⌜ (p ≤ 2 ^ 20) × (1 ≤ n) × (n ≤ 16) × (z < p) ⌝ }
@@ -40,8 +39,7 @@ fn kernel(p: u64, n: usize, z: u64, t: &[u64; 16], m: &mut [u64; 256]) -> Soluti
     ensures { λ r. ⌜ Kernel p n (take n (now (t .entry))) z (r .regular) (r .vector) ⌝ }
     ensures { λ _. ⌜ length (now (m .exit)) ≡ 256 ⌝ }
 {
-    let x = frobenius_of_x(p, n, t);
-    powers(p, n, t, &x, m);
+    frobenius(p, n, t, m);
     minus(p, n, z, m);
     solve(p, n, m, [0; 16])
 }

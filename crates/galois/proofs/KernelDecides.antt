@@ -3,7 +3,7 @@
 --                                        satisfies the equation, T has one; α is v divided by its first coefficient that is not zero, its
 --                                        powers are independent, and α^n is a constant other than 0
 use mathlib.Core.Path.{_≡_, sym, ap, _∙_}
-use mathlib.Core.Bool.{true, false, not, true≢false}
+use mathlib.Core.Bool.{true, false, not}
 use mathlib.Core.List.{List}
 use Prim.Native.Nat.{ℕ, zero, suc, _≤_, _<_}
 use native.Mathlib.Omega.{arith}

@@ -1,26 +1,26 @@
 -- Rabin's criterion. If T has no divisor of degree 1 to n − 1, its residues are a field in which X has period n. If T has one, take a divisor D without
 -- proper divisors, of degree d < n: modulo D the period of X is d, so X^(p^n) = X gives d | n, hence d | n/q for a prime q that divides n, and then
 -- X^(p^(n/q)) − X is 0 modulo D and has no inverse modulo T.
-use mathlib.Core.Path.{_≡_, sym, ap, ap₂, _∙_, subst}
+use mathlib.Core.Path.{_≡_, sym, ap, _∙_, subst}
 use mathlib.Core.List.{List}
-use Prim.Native.Nat.{ℕ, zero, suc, _-_, _*_, _/_, _%_, _^_, _≤_, _<_}
-use native.Mathlib.Nat.{div-add-mod, div-lt-self, div-eq-of-eq-mul-right, mul-mod-right, mul-zero, mul-comm as ℕ·mul-comm, pos-of-ne-zero}
+use Prim.Native.Nat.{ℕ, zero, suc, _-_, _*_, _/_, _%_, _^_, _<_}
+use native.Mathlib.Nat.{div-add-mod, div-lt-self, mul-zero, pos-of-ne-zero}
 use native.Mathlib.Omega.{arith}
 use lib.ListN.{length}
 use Rattle.algebra.specs.Prime.{Prime}
-use Rattle.algebra.specs.Ring.{CommutativeRing, numeral}
+use Rattle.algebra.specs.Ring.{CommutativeRing}
 use Rattle.algebra.specs.Ring as Ring
-use Rattle.algebra.proofs.RingLaws.{add-mul, add-neg, eq-of-sub-zero, neg-unique, numeral-suc, one-mul, zero-mul}
+use Rattle.algebra.proofs.RingLaws.{add-neg, eq-of-sub-zero, zero-mul}
 use Rattle.array.specs.Words.{Words}
 use Rattle.array.proofs.Words.{words-length}
 use Rattle.quotient.specs.Divisor.{Divides, HasDivisor}
-use Rattle.quotient.specs.Residue.{Residue, sum, scale, constant, product, residueOfX}
+use Rattle.quotient.specs.Residue.{Residue, residueOfX}
 use Rattle.quotient.proofs.Descent.{irreducible-divisor}
 use Rattle.quotient.proofs.Divisor.{divides-transitive, divides-zero, reduction-homomorphism}
 use Rattle.quotient.proofs.Field.{residueField}
 use Rattle.quotient.proofs.Operations.{residue-path}
-use Rattle.quotient.proofs.Reduction.{characteristic, reduce, add-is, mul-is, scale-is, one-is, zero-is}
-use Rattle.quotient.proofs.Ring.{residueRing, xResidue, power-is}
+use Rattle.quotient.proofs.Reduction.{characteristic, reduce, mul-is, one-is}
+use Rattle.quotient.proofs.Ring.{residueRing, xResidue}
 use Rattle.quotient.proofs.Substitution.{Homomorphism, homomorphism-power, homomorphism-zero, evaluate-of-x}
 use Rattle.quotient.proofs.Units.{nonzero-invertible}
 use Rattle.irreducible.specs.Rabin.{conjugate, difference, HasInverse, Rabin}

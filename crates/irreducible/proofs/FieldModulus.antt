@@ -19,7 +19,6 @@ use Rattle.quotient.proofs.Reduction.{mul-is, one-is, zero-is, reduce, reduce-s
 use Rattle.quotient.proofs.Ring.{residueRing}
 use Rattle.quotient.proofs.Substitution.{Homomorphism}
 use Rattle.quotient.proofs.Units.{nonzero-invertible}
-use Rattle.irreducible.specs.Rabin.{HasInverse}
 use Rattle.irreducible.specs.Irreducible.{Inverses}
 
 -- zeros at the end change nothing

@@ -1,4 +1,4 @@
 -- Rabin's criterion, moduli of fields, and the call for one modulus.
 pub mod Rabin
-pub mod Frobenius
+pub mod Passes
 pub mod Irreducible

@@ -1,31 +1,17 @@
-// The conjugates X^(p^k) of X modulo T, by the matrix of u ↦ u^p: its columns are the powers of X^p, since u^p = u(X^p). One matrix serves all.
+// The conjugates X^(p^k) of X modulo T, by the matrix of u ↦ u^p; one matrix serves all.
 ghost use mathlib.Core.Path.{_≡_};
 ghost use Prim.Native.Nat.{_-_, _^_, _≤_};
-ghost use lib.ListN.{length, take};
+ghost use lib.ListN.{take};
 ghost use Rattle.algebra.specs.Prime.{Prime};
 ghost use Rattle.array.specs.Array.{padded, Holds};
+ghost use Rattle.matrix.specs.Matrix.{Frobenius};
 ghost use Rattle.modular.specs.Barrett.{Reduces};
-ghost use Rattle.quotient.specs.Residue.{sum, scale, residueOfX};
+ghost use Rattle.quotient.specs.Residue.{sum, scale};
 ghost use Rattle.irreducible.specs.Rabin.{conjugate as conjugateOf, difference as differenceOf};
-ghost use Rattle.irreducible.specs.Frobenius.{Frobenius};
-use matrix::powers::powers;
 use matrix::product::products;
 use modular::barrett::Barrett;
 use modular::word::sub;
-use residue::ring::frobenius_of_x;
 use residue::ring::residue_of_x;
-
-// The matrix of u ↦ u^p modulo T.
-pub fn frobenius(p: u64, n: usize, t: &[u64; 16], m: &mut [u64; 256])
-    requires { ⌜ Prime p ⌝ }
-    requires { ⌜ (p ≤ 2 ^ 20) × (1 ≤ n) × (n ≤ 16) ⌝ }
-    requires { ⌜ Holds p n (now t) ⌝ }
-    requires { ⌜ length (now m) ≡ 256 ⌝ }
-    ensures { λ _. ⌜ Frobenius p n (take n (now (t .entry))) (now (m .exit)) ⌝ }
-{
-    let x = frobenius_of_x(p, n, t);
-    powers(p, n, t, &x, m);
-}
 
 // X^(p^k) modulo T, from X by k products with the matrix.
 pub fn conjugate(d: Barrett, n: usize, t: &[u64; 16], m: &[u64; 256], k: usize) -> [u64; 16]

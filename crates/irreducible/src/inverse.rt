@@ -1,6 +1,5 @@
 // Whether a residue w has an inverse modulo T, by one elimination. The columns w, X·w, …, X^(n−1)·w are the matrix of v ↦ v·w: a regular system has a v with v·w = 1, and a
 // singular one a v other than 0 with v·w = 0, which no w with an inverse has.
-ghost use mathlib.Core.Path.{_≡_};
 ghost use Prim.Native.Nat.{_≤_};
 ghost use lib.ListN.{take};
 ghost use Rattle.algebra.specs.Prime.{Prime};

@@ -7,15 +7,16 @@ ghost use Rattle.algebra.specs.Lists.{All, equal};
 ghost use Rattle.algebra.specs.Prime.{Prime};
 ghost use Rattle.algebra.specs.Search.{Decides};
 ghost use Rattle.array.specs.Array.{Holds};
+ghost use Rattle.matrix.specs.Matrix.{Frobenius};
 ghost use Rattle.modular.specs.Barrett.{Reduces};
 ghost use Rattle.quotient.specs.DivisorTest.{hasDivisor};
 ghost use Rattle.quotient.specs.Residue.{residueOfX};
 ghost use Rattle.irreducible.specs.Rabin.{conjugate as conjugateOf};
-ghost use Rattle.irreducible.specs.Frobenius.{Frobenius, Passes};
+ghost use Rattle.irreducible.specs.Passes.{Passes};
 use crate::conjugate::conjugate;
 use crate::conjugate::difference;
-use crate::conjugate::frobenius;
 use crate::inverse::has_inverse;
+use matrix::frobenius::frobenius;
 use modular::barrett::Barrett;
 use residue::compare::is_x;
 

@@ -3,3 +3,4 @@ mod Filled
 mod Placed
 pub mod MultiplicationMatrix
 pub mod PowerMatrix
+pub mod FrobeniusMatrix

@@ -1,5 +1,6 @@
 -- The powers of a residue S, or its multiples X^k·S, as the columns of a matrix, and the product of a matrix with a residue.
 --   Powers p k t s m        column j of m holds S^j modulo T, for j < k
+--   Frobenius p n t m       column j of m holds (X^p)^j modulo T, for j < n: where p is prime, the matrix of u ↦ u^p
 --   multiple p t s k        X^k·S modulo T
 --   Multiples p k t s m     column j of m holds X^j·S modulo T, for j < k, and all words of m are below p
 --   Placed n j u m m'       m' is m with the first n words of u in column j
@@ -11,11 +12,14 @@ use Prim.Native.Nat.{ℕ, zero, suc, _%_, _≤_, _<_}
 use lib.ListN.{length, getD}
 use Rattle.algebra.specs.Lists.{range}
 use Rattle.array.specs.Array.{entry, Square, rowProduct}
-use Rattle.quotient.specs.Residue.{timesX, power}
+use Rattle.quotient.specs.Residue.{timesX, power, residueOfX}
 
 pub record Powers (p k : ℕ) (t s m : List ℕ) : Type 0 where
   pub size : length m ≡ 256
   pub words : (i j : ℕ) → i < length t → j < k → entry m i j ≡ getD (power p t s j) i 0
+
+abbrev pub Frobenius : ℕ → ℕ → List ℕ → List ℕ → Type 0
+Frobenius p n t m = Powers p n t (power p t (residueOfX p t) p) m
 
 unfoldable pub multiple : ℕ → List ℕ → List ℕ → ℕ → List ℕ
 multiple p t s zero = s

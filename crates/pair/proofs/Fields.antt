@@ -2,15 +2,13 @@
 -- for u(R)(S) = u, and the forward map takes an inverse of u(R) to one of u. So T1 and T2 have divisors of degree 1 to n − 1 together.
 --   inverses-forth               inverses carry over to the residues modulo T2
 --   second-none                  the same of the tests for divisors, from T1 to T2
-use mathlib.Core.Path.{_≡_, sym, ap, ap₂, _∙_}
+use mathlib.Core.Path.{_≡_, sym, ap, _∙_}
 use mathlib.Core.Bool.{true, false}
 use mathlib.Core.List.{List}
 use Prim.Native.Nat.{ℕ, _≤_}
-use native.Mathlib.Omega.{arith}
-use lib.ListN.{length}
 use Rattle.algebra.specs.Prime.{Prime}
 use Rattle.array.specs.Words.{Words}
-use Rattle.array.proofs.Words.{of-length, to-length, words-length}
+use Rattle.array.proofs.Words.{of-length, to-length}
 use Rattle.irreducible.specs.Irreducible.{Inverses}
 use Rattle.irreducible.proofs.Theorem.{inverses-of, irreducible-of}
 use Rattle.quotient.specs.Divisor.{HasDivisor}

@@ -1,5 +1,4 @@
 -- The sheets of examples A and E, computed.
-use mathlib.Core.Path.{refl}
 use borrow.Author.Tests.{eq-eqb, ne-eqb}
 use lib.ListN.{length}
 use Rattle.algebra.specs.Lists.{all, equal, first, range}

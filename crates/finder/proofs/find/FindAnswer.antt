@@ -1,7 +1,7 @@
 -- The public call: what the refusals leave, the copies between lists and arrays, and what the two lent lists hold at the end.
 use mathlib.Core.Path.{_≡_, refl, sym, ap, subst, subst₂, _∙_}
 use mathlib.Core.List.{List, [], _∷_}
-use Prim.Native.Nat.{ℕ, _^_, _≤_}
+use Prim.Native.Nat.{ℕ, _≤_}
 use native.Mathlib.Omega.{arith}
 use lib.ListN.{length, take}
 use Rattle.quotient.proofs.Decision.{test-irreducible}

@@ -9,18 +9,19 @@ use native.Mathlib.Nat.{add-assoc, add-comm, add-mul, add-mul-mod-self-left, mod
 use native.Mathlib.Omega.{arith}
 use lib.ListN.{length, getD, take, replicate}
 use Rattle.algebra.specs.Prime.{Prime}
-use Rattle.array.specs.Array.{entry, rowProduct, Square, padded, Holds}
+use Rattle.array.specs.Array.{entry, rowProduct, Square, Holds}
 use Rattle.linear.specs.System.{Solves, Outcome}
 use Rattle.linear.proofs.Congruence.{sum-congruent, product-congruent}
 use Rattle.array.specs.Words.{Words}
 use Rattle.quotient.specs.Residue.{scale, power, residueOfX, substitute}
 use Rattle.quotient.proofs.Frobenius.{frobenius-substitutes}
-use Rattle.quotient.proofs.Operations.{constant-zero, power-words, residueOfX-words, scale-words, substitute-words}
+use Rattle.quotient.proofs.Operations.{constant-zero, scale-words, substitute-words}
 use Rattle.array.proofs.Words.{words-length, words-same, zeros-words}
-use Rattle.matrix.specs.Matrix.{Powers}
+use Rattle.matrix.specs.Matrix.{Powers, Frobenius}
 use Rattle.quotient.proofs.SumOfPowers.{scale-word}
+use Rattle.matrix.proofs.FrobeniusMatrix.{power-x-words}
 use Rattle.matrix.proofs.PowerMatrix.{powers-square, row-substitutes}
-use Rattle.array.proofs.Padded.{words-at, front-is, holds-is, padded-zeros}
+use Rattle.array.proofs.Padded.{words-at, holds-is, padded-zeros}
 use Rattle.frobenius.specs.Kernel.{Shifted, Kernel}
 
 -- rows with the same words have the same products
@@ -98,38 +99,32 @@ module _ {p n : ℕ} {t s m c : List ℕ} (prime : Prime p) (wt : Words p n t) (
         by-place i j li lj (yes e) = rw (e, shifted .diagonal i li) (mod-lt (entry m i i + (p - z)) (omega arith))
         by-place i j li lj (no other) = rw (shifted .others i j li lj other) (powers-square big wt ws powers .below i j li lj)
 
--- the same of arrays, with S = X^p
+-- the same of arrays, with S = X^p: u(X^p) = u^p
 
 pub zero-holds : (p n : ℕ) → Prime p → n ≤ 16 → Holds p n (replicate 16 0)
 zero-holds p n prime short = holds-is (padded-zeros n short) (zeros-words n (omega arith))
 
-module _ (p n : ℕ) (t x : List ℕ) (prime : Prime p) (ht : Holds p n t) (ex : x ≡ padded (power p (take n t) (residueOfX p (take n t)) p)) where
+module _ (p n : ℕ) (t m c : List ℕ) (z : ℕ) (prime : Prime p) (below : z < p) (ht : Holds p n t) (frobenius : Frobenius p n (take n t) m) where
   abbrev T : List ℕ
   T = take n t
 
-  power-x-words : Words p n (power p T (residueOfX p T) p)
-  power-x-words = power-words (prime .0) (ht .words) (residueOfX-words (prime .0) (ht .words)) p
+  words : Words p n (power p T (residueOfX p T) p)
+  words = power-x-words (prime .0) (ht .words)
 
-  pub power-x-holds : Holds p n x
-  power-x-holds = holds-is ex power-x-words
+  module _ (shifted : Shifted p n z m c) where
+    pub kernel-square : Square p n c
+    kernel-square = shifted-square prime (ht .words) words frobenius z below shifted
 
-  -- u^p = u(X^p)
-  frobenius : {u : List ℕ} → Words p n u → power p T u p ≡ substitute p T (take n x) u
-  frobenius {u} wu = frobenius-substitutes prime (ht .words) (u, wu) ∙ ap (λ s. substitute p T s u) (sym (front-is ex power-x-words))
-
-  module _ (z : ℕ) (m c : List ℕ) (below : z < p) (powers : Powers p n T (take n x) m) where
-    pub power-x-square : Square p n m
-    power-x-square = powers-square (prime .0) (ht .words) (power-x-holds .words) powers
-
-    module _ (shifted : Shifted p n z m c) where
-      pub kernel-square : Square p n c
-      kernel-square = shifted-square prime (ht .words) (power-x-holds .words) powers z below shifted
-
-      pub kernel-is : (r : Bool) (v : List ℕ) → Outcome p n c (replicate 16 0) r v → Kernel p n T z r v
-      kernel-is r v outcome =
-          record {
-            holds = outcome .holds;
-            if-regular = λ e u wu h. outcome .if-regular e .trivial u wu (value-kernel prime (ht .words) (power-x-holds .words) powers z below shifted wu (sym (frobenius wu) ∙ h)) ∙ sym (constant-zero n);
-            not-zero = λ e h. outcome .if-singular e .nonzero (h ∙ constant-zero n);
-            power-is = λ e. frobenius (outcome .holds .words) ∙ kernel-value prime (ht .words) (power-x-holds .words) powers z below shifted (outcome .holds .words) (outcome .if-singular e .solves);
-          }
+    pub kernel-is : (r : Bool) (v : List ℕ) → Outcome p n c (replicate 16 0) r v → Kernel p n T z r v
+    kernel-is r v outcome =
+        record {
+          holds = outcome .holds;
+          if-regular = λ e u wu h.
+              outcome .if-regular e .trivial u wu
+              (value-kernel prime (ht .words) words frobenius z below shifted wu (sym (frobenius-substitutes prime (ht .words) (u, wu)) ∙ h))
+              ∙ sym (constant-zero n);
+          not-zero = λ e h. outcome .if-singular e .nonzero (h ∙ constant-zero n);
+          power-is = λ e.
+              frobenius-substitutes prime (ht .words) (take n v, outcome .holds .words)
+              ∙ kernel-value prime (ht .words) words frobenius z below shifted (outcome .holds .words) (outcome .if-singular e .solves);
+        }

@@ -1,39 +1,24 @@
 -- The matrix of u ↦ u^p takes X^(p^i) to X^(p^(i + 1)).
-use mathlib.Core.Path.{_≡_, sym, ap, ap₂, subst, _∙_}
+use mathlib.Core.Path.{_≡_, sym, ap, ap₂, _∙_}
 use mathlib.Core.List.{List}
 use Prim.Native.Nat.{ℕ, _+_, _-_, _≤_}
 use native.Mathlib.Numerals.{add-one}
 use native.Mathlib.Omega.{arith}
 use lib.ListN.{take}
 use Rattle.algebra.specs.Prime.{Prime}
-use Rattle.array.specs.Array.{padded, Holds, Square}
+use Rattle.array.specs.Array.{padded, Holds}
 use Rattle.array.specs.Words.{Words}
 use Rattle.array.proofs.Padded.{front-is, holds-is}
-use Rattle.matrix.specs.Matrix.{Powers, matrixProduct}
-use Rattle.matrix.proofs.PowerMatrix.{powers-square, product-substitutes}
-use Rattle.quotient.specs.Residue.{sum, scale, power, residueOfX}
-use Rattle.quotient.proofs.Frobenius.{frobenius-substitutes}
-use Rattle.quotient.proofs.Operations.{power-words, residueOfX-words}
+use Rattle.matrix.specs.Matrix.{Frobenius, matrixProduct}
+use Rattle.matrix.proofs.FrobeniusMatrix.{frobenius-applies}
+use Rattle.quotient.specs.Residue.{sum, scale, residueOfX}
+use Rattle.quotient.proofs.Operations.{residueOfX-words}
 use Rattle.irreducible.specs.Rabin.{conjugate, difference}
-use Rattle.irreducible.specs.Frobenius.{Frobenius}
 use Rattle.irreducible.proofs.Conjugates.{conjugate-words, conjugate-zero, conjugate-power}
 
 module _ (p n : ℕ) (t : List ℕ) (prime : Prime p) (ht : Holds p n t) where
   abbrev T : List ℕ
   T = take n t
-
-  power-x-words : Words p n (power p T (residueOfX p T) p)
-  power-x-words = power-words (prime .0) (ht .words) (residueOfX-words (prime .0) (ht .words)) p
-
-  module _ (x : List ℕ) (e : x ≡ padded (power p T (residueOfX p T) p)) where
-    pub power-x-holds : Holds p n x
-    power-x-holds = holds-is e power-x-words
-
-    pub powers-frobenius : (m : List ℕ) → Powers p n T (take n x) m → Frobenius p n T m
-    powers-frobenius m h = subst (λ s. Powers p n T s m) (front-is e power-x-words) h
-
-  pub frobenius-square : (m : List ℕ) → Frobenius p n T m → Square p n m
-  frobenius-square m h = powers-square (prime .0) (ht .words) power-x-words h
 
   pub x-holds : (x : List ℕ) → x ≡ padded (residueOfX p T) → Holds p n x
   x-holds x e = holds-is e (residueOfX-words (prime .0) (ht .words))
@@ -48,8 +33,7 @@ module _ (p n : ℕ) (t : List ℕ) (prime : Prime p) (ht : Holds p n t) where
     pub conjugate-next : (m w : List ℕ) → Frobenius p n T m → w ≡ padded (matrixProduct p n m (take n u)) → w ≡ padded (conjugate p T (k + 1))
     conjugate-next m w h f =
         let wk : Words p n (conjugate p T k) = conjugate-words (prime .0) (ht .words) k in
-        f ∙ ap padded (ap (matrixProduct p n m) (front-is e wk) ∙ product-substitutes (prime .0) (ht .words) power-x-words h wk
-        ∙ sym (frobenius-substitutes prime (ht .words) (conjugate p T k, wk)) ∙ conjugate-power (prime .0) (ht .words) k ∙ ap (conjugate p T) (sym (add-one k)))
+        f ∙ ap padded (ap (matrixProduct p n m) (front-is e wk) ∙ frobenius-applies prime (ht .words) h wk ∙ conjugate-power (prime .0) (ht .words) k ∙ ap (conjugate p T) (sym (add-one k)))
 
     pub conjugate-done : (i : ℕ) → k ≤ i → i ≤ k → u ≡ padded (conjugate p T i)
     conjugate-done i l l′ = let same : k ≡ i = omega arith in e ∙ ap (λ j. padded (conjugate p T j)) same

@@ -19,7 +19,7 @@ use Rattle.quotient.specs.DivisorTest.{hasDivisor}
 use Rattle.quotient.specs.Residue.{residueOfX}
 use Rattle.quotient.proofs.Decision.{test-has-divisor, test-irreducible}
 use Rattle.irreducible.specs.Rabin.{conjugate, difference, HasInverse, Rabin}
-use Rattle.irreducible.specs.Frobenius.{Passes}
+use Rattle.irreducible.specs.Passes.{Passes}
 use Rattle.irreducible.proofs.Criterion.{irreducible-rabin, rabin-irreducible}
 use Rattle.irreducible.proofs.rabin.Primes.{primes, prime-listed, listed-prime, divisor-small}
 

@@ -1,17 +1,15 @@
 -- `kernel`: the solutions of the system are the u with u^p = z·u.
 use borrow.Author.Needs.{needs}
-use Rattle.frobenius.proofs.eigenvector.FrobeniusSystem.{zero-holds, power-x-holds, power-x-square, kernel-square, kernel-is}
+use Rattle.matrix.proofs.FrobeniusMatrix.{frobenius-square}
+use Rattle.frobenius.proofs.eigenvector.FrobeniusSystem.{zero-holds, kernel-square, kernel-is}
 use Rattle.frobenius.proofs.eigenvector.kernel.Statement.{statement}
 use Rattle.frobenius.proofs.eigenvector.kernel.Tie as tie
 
-frobenius-of-x-requires : tie.Need-frobenius-of-x-requires
-frobenius-of-x-requires c κs = search needs
-
-powers-requires : tie.Need-powers-requires
-powers-requires c κs = (search needs, ((search needs, search power-x-holds), search needs))
+frobenius-requires : tie.Need-frobenius-requires
+frobenius-requires c κs = search needs
 
 minus-requires : tie.Need-minus-requires
-minus-requires c κs = (search needs, search power-x-square)
+minus-requires c κs = (search needs, search frobenius-square)
 
 solve-requires : tie.Need-solve-requires
 solve-requires c κs = (search needs, (search needs, (search kernel-square, search zero-holds)))
@@ -23,8 +21,7 @@ pub kernel-spec : {M : Type 1} → statement M
 kernel-spec =
     tie.close
     (tie.spec
-    frobenius-of-x-requires
-    powers-requires
+    frobenius-requires
     minus-requires
     solve-requires
     returns)

@@ -7,7 +7,8 @@ use Prim.Native.Nat.{_-_, _≤_}
 use mathlib.Core.Path.{_≡_}
 use Rattle.array.specs.Array.{padded}
 use Rattle.irreducible.specs.Rabin.{conjugate as conjugateOf}
-use Rattle.irreducible.proofs.conjugate.Iteration.{frobenius-square, conjugate-starts, conjugate-holds, conjugate-next, conjugate-done}
+use Rattle.matrix.proofs.FrobeniusMatrix.{frobenius-square}
+use Rattle.irreducible.proofs.conjugate.Iteration.{conjugate-starts, conjugate-holds, conjugate-next, conjugate-done}
 
 abbrev Inv-loop : tie.InvT-loop
 Inv-loop d n t m k u₀ i₀ u i = (i ≤ k) × (u ≡ padded (conjugateOf (d .p) (take n t) i))

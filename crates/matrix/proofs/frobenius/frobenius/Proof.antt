@@ -1,8 +1,8 @@
 -- `frobenius`: the powers of X^p are the columns of u ↦ u^p.
 use borrow.Author.Needs.{needs}
-use Rattle.irreducible.proofs.conjugate.frobenius.Statement.{statement}
-use Rattle.irreducible.proofs.conjugate.frobenius.Tie as tie
-use Rattle.irreducible.proofs.conjugate.Iteration.{power-x-holds, powers-frobenius}
+use Rattle.matrix.proofs.frobenius.frobenius.Statement.{statement}
+use Rattle.matrix.proofs.frobenius.frobenius.Tie as tie
+use Rattle.matrix.proofs.FrobeniusMatrix.{power-x-holds, powers-frobenius}
 
 frobenius-of-x-requires : tie.Need-frobenius-of-x-requires
 frobenius-of-x-requires c κs = search needs
