@@ -13,6 +13,8 @@ pub mod Units
 pub mod PowerRoots
 pub mod Order
 pub mod OrderExists
+pub mod Period
+pub mod PrimeDivisor
 pub mod Equality
 pub mod Scan
 pub mod Constants

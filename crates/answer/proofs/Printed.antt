@@ -1,4 +1,4 @@
--- What is printed where a number decides: the line of a refusal, or the text that follows the answer 0.
+-- What is printed where a number decides: the line of a refusal, or the text that follows the answer 0; for a pair card also RING, where the congruences hold all the same.
 use mathlib.Core.Path.{_≡_, refl, sym, ap, ap₂, subst, _∙_}
 use mathlib.Core.Bool.{Bool, true, false}
 use mathlib.Core.List.{List, [], _∷_}
@@ -7,7 +7,7 @@ use lib.ListN.{take, replicate}
 use Rattle.refusal.proofs.Refusal.{given-sent}
 use Rattle.card.specs.Card.{card, cardLength, writeNumber}
 use Rattle.finder.specs.Finder.{refuseFind}
-use Rattle.pair.specs.Pair.{accepts, refusePair, checkNumber, checkNumberOr}
+use Rattle.pair.specs.Pair.{congruencesHold, refusePair, checkNumber, checkNumberOr}
 use Rattle.pair.proofs.Refusals.{all-sent}
 use Rattle.refusal.specs.Models.{Models}
 use Rattle.pair.specs.Theorem.{Given}
@@ -58,9 +58,9 @@ module _ (p n number : ℕ) (t1 t2 s r : List ℕ) (e : number ≡ checkNumber p
 
   pub check-valid : (end : ℕ) (text : List ℕ) → number ≡ 0 → Begins validText text end → Begins (pairCardText p t1 t2 s r) text end
   unfolding pairCardText pairLine
-  check-valid end text h b = instead (ap (λ k. pairLine k (accepts p t1 t2 s r)) (sym h ∙ number-is)) b
+  check-valid end text h b = instead (ap (λ k. pairLine k (congruencesHold p t1 t2 s r)) (sym h ∙ number-is)) b
 
-  module _ (h : number ≡ 0 → ⊥) (hold : Bool) (f : hold ≡ accepts p t1 t2 s r) (end : ℕ) (text : List ℕ) where
+  module _ (h : number ≡ 0 → ⊥) (hold : Bool) (f : hold ≡ congruencesHold p t1 t2 s r) (end : ℕ) (text : List ℕ) where
     pub check-ring : hold ≡ true → Begins ringText text end → Begins (pairCardText p t1 t2 s r) text end
     unfolding pairCardText
     check-ring k b = instead (go number h ∙ ap₂ pairLine number-is (sym k ∙ f)) b

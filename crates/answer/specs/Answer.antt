@@ -21,7 +21,7 @@ use lib.ListN.{take, drop, replicate}
 use Rattle.text.specs.Digits.{decimal, hexadecimal}
 use Rattle.card.specs.Card.{card, cardPrime, cardDegree, cardKind, cardWords, readNumber}
 use Rattle.finder.specs.Finder.{findS, findR, refuseFind}
-use Rattle.pair.specs.Pair.{accepts, refusePair}
+use Rattle.pair.specs.Pair.{congruencesHold, refusePair}
 
 unfoldable pub part : ℕ → List ℕ → ℕ → List ℕ
 part n words k = take n (drop (k * n) words)
@@ -56,7 +56,7 @@ pairLine (suc k) true = ringText
 pairLine (suc k) false = refusedText (suc k)
 
 unfoldable pub pairCardText : ℕ → List ℕ → List ℕ → List ℕ → List ℕ → List ℕ
-pairCardText p t1 t2 s r = pairLine (refusePair p t1 t2 s r) (accepts p t1 t2 s r)
+pairCardText p t1 t2 s r = pairLine (refusePair p t1 t2 s r) (congruencesHold p t1 t2 s r)
 
 unfoldable pub cardText : List ℕ → List ℕ
 cardText ys =

@@ -8,7 +8,7 @@ use lib.ListN.{length}
 use Rattle.quotient.specs.DivisorTest.{hasDivisor}
 use Rattle.refusal.specs.Models.{Models}
 use Rattle.refusal.proofs.Refusal.{refuse-none, given-sent}
-use Rattle.refusal.proofs.TwoModels.{models-sent}
+use Rattle.refusal.proofs.Models.{models-sent}
 use Rattle.finder.specs.Finder.{Findable, findable, refuseFind, findNumber}
 
 pub findable-true : (p n : ℕ) → Findable p n → findable p n ≡ true

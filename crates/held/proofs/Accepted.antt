@@ -13,7 +13,7 @@ use Rattle.refusal.specs.Models.{Models}
 use Rattle.refusal.specs.Refusal.{refuse, refuseSent, badLength, badWord}
 use Rattle.refusal.proofs.Refusal.{given-prime, given-degree, sent-given}
 use Rattle.refusal.proofs.Lists.{words-below}
-use Rattle.refusal.proofs.TwoModels.{sent-models}
+use Rattle.refusal.proofs.Models.{sent-models}
 use Rattle.pair.specs.Pair.{refusePair, checkNumber, checkNumberOr}
 use Rattle.pair.specs.Theorem.{Given}
 use Rattle.pair.proofs.Theorem.{checker-theorem}

@@ -10,7 +10,7 @@ use mathlib.Core.List.{List, [], _∷_}
 use Prim.Native.Nat.{ℕ}
 use lib.ListN.{take}
 use Rattle.refusal.specs.Models.{Models}
-use Rattle.refusal.proofs.TwoModels.{models-sent}
+use Rattle.refusal.proofs.Models.{models-sent}
 use Rattle.pair.specs.Theorem.{Given}
 use Rattle.pair.proofs.Refusals.{given, all-sent}
 use Rattle.array.specs.Words.{Words}

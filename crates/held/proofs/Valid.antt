@@ -16,7 +16,7 @@ use Rattle.refusal.specs.Models.{Models}
 use Rattle.refusal.specs.Refusal.{badPrime, badDegree, badWord, largestDegree}
 use Rattle.refusal.proofs.Refusal.{Sent, prime-given, degree-given, given-prime, given-degree}
 use Rattle.refusal.proofs.Lists.{below-given, given-below}
-use Rattle.refusal.proofs.TwoModels.{sent-models}
+use Rattle.refusal.proofs.Models.{sent-models}
 use Rattle.held.specs.Held.{valid}
 
 valid-given : (p n : ℕ) (xss : List (List ℕ)) → valid p n xss ≡ true → (badPrime p ≡ false) × (badDegree n ≡ false) × (badWord p xss ≡ false)

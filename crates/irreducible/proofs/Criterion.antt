@@ -3,18 +3,20 @@
 -- X^(p^(n/q)) − X is 0 modulo D and has no inverse modulo T.
 use mathlib.Core.Path.{_≡_, sym, ap, _∙_, subst}
 use mathlib.Core.List.{List}
-use Prim.Native.Nat.{ℕ, zero, suc, _-_, _*_, _/_, _%_, _^_, _<_}
+use Prim.Native.Nat.{ℕ, zero, suc, _*_, _/_, _%_, _^_, _<_}
 use native.Mathlib.Nat.{div-add-mod, div-lt-self, mul-zero, pos-of-ne-zero}
 use native.Mathlib.Omega.{arith}
 use lib.ListN.{length}
 use Rattle.algebra.specs.Prime.{Prime}
 use Rattle.algebra.specs.Ring.{CommutativeRing}
 use Rattle.algebra.specs.Ring as Ring
+use Rattle.algebra.proofs.Period.{period-multiple, period-divides}
+use Rattle.algebra.proofs.PrimeDivisor.{prime-quotient}
 use Rattle.algebra.proofs.RingLaws.{add-neg, eq-of-sub-zero, zero-mul}
 use Rattle.array.specs.Words.{Words}
 use Rattle.array.proofs.Words.{words-length}
 use Rattle.quotient.specs.Divisor.{Divides, HasDivisor}
-use Rattle.quotient.specs.Residue.{Residue, residueOfX}
+use Rattle.quotient.specs.Residue.{Residue, residueOfX, HasInverse}
 use Rattle.quotient.proofs.Descent.{irreducible-divisor}
 use Rattle.quotient.proofs.Divisor.{divides-transitive, divides-zero, reduction-homomorphism}
 use Rattle.quotient.proofs.Field.{residueField}
@@ -22,11 +24,11 @@ use Rattle.quotient.proofs.Operations.{residue-path}
 use Rattle.quotient.proofs.Reduction.{characteristic, reduce, mul-is, one-is}
 use Rattle.quotient.proofs.Ring.{residueRing, xResidue}
 use Rattle.quotient.proofs.Substitution.{Homomorphism, homomorphism-power, homomorphism-zero, evaluate-of-x}
-use Rattle.quotient.proofs.Units.{nonzero-invertible}
-use Rattle.irreducible.specs.Rabin.{conjugate, difference, HasInverse, Rabin}
+use Rattle.quotient.proofs.FieldModulus.{has-inverse, inverse-of}
+use Rattle.quotient.proofs.Units.{Invertible, nonzero-invertible}
+use Rattle.irreducible.specs.Rabin.{conjugate, difference, Rabin}
 use Rattle.irreducible.proofs.Conjugates.{conjugate-is, difference-is}
-use Rattle.irreducible.proofs.Period.{period-multiple, period-divides, power-of-size, no-lower-period}
-use Rattle.irreducible.proofs.PrimeDivisor.{prime-quotient}
+use Rattle.irreducible.proofs.PeriodOfX.{power-of-size, no-lower-period}
 
 module _ {p n : ℕ} {t : List ℕ} (prime : Prime p) (wt : Words p (suc n) t) where
   abbrev K : CommutativeRing (Residue p (suc n))
@@ -39,17 +41,12 @@ module _ {p n : ℕ} {t : List ℕ} (prime : Prime p) (wt : Words p (suc n) t) w
   abbrev differenceResidue : ℕ → Residue p (suc n)
   differenceResidue k = K .add (Ring.power K x (p ^ k)) (K .neg x)
 
-  -- on lists and in the ring
-  inverse-of : (k : ℕ) (v : Residue p (suc n)) → K .mul (differenceResidue k) v ≡ K .one → HasInverse p t (difference p t k)
-  inverse-of k v e =
-      let size : length t ≡ suc n = words-length wt in
-      rw (size, difference-is (prime .0) wt k) (v .0, v .1, sym (mul-is (prime .0) wt (differenceResidue k) v) ∙ ap (λ w. w .0) e ∙ one-is (prime .0) wt)
+  -- an inverse of it on lists and in the ring
+  difference-has : (k : ℕ) → Invertible K (differenceResidue k) → HasInverse p t (difference p t k)
+  difference-has k h = rw (difference-is (prime .0) wt k) (has-inverse (prime .0) wt (differenceResidue k) h)
 
-  of-inverse : (k : ℕ) → HasInverse p t (difference p t k) → (v : Residue p (suc n)) × (K .mul (differenceResidue k) v ≡ K .one)
-  of-inverse k h =
-      let size : length t ≡ suc n = words-length wt in
-      let (v, wv, e) = rw (size, difference-is (prime .0) wt k) at h in
-      ((v, wv), residue-path (mul-is (prime .0) wt (differenceResidue k) (v, wv) ∙ e ∙ sym (one-is (prime .0) wt)))
+  difference-of : (k : ℕ) → HasInverse p t (difference p t k) → Invertible K (differenceResidue k)
+  difference-of k h = inverse-of (prime .0) wt (differenceResidue k) (subst (HasInverse p t) (difference-is (prime .0) wt k) h)
 
   -- T without proper divisors satisfies Rabin's conditions
 
@@ -60,9 +57,8 @@ module _ {p n : ℕ} {t : List ℕ} (prime : Prime p) (wt : Words p (suc n) t) w
 
     inverse-at : (k : ℕ) → 0 < k → k < suc n → HasInverse p t (difference p t k)
     inverse-at k pos less =
-        let (v, e) = nonzero-invertible prime wt irreducible (differenceResidue k)
-        (λ z. no-lower-period prime wt irreducible k pos less (eq-of-sub-zero K (Ring.power K x (p ^ k)) x z)) in
-        inverse-of k v e
+        difference-has k (nonzero-invertible prime wt irreducible (differenceResidue k)
+        (λ z. no-lower-period prime wt irreducible k pos less (eq-of-sub-zero K (Ring.power K x (p ^ k)) x z)))
 
     inverse-quotient : (q : ℕ) → Prime q → suc n % q ≡ 0 → HasInverse p t (difference p t (suc n / q))
     inverse-quotient q h divides =
@@ -107,7 +103,7 @@ module _ {p n : ℕ} {t : List ℕ} (prime : Prime p) (wt : Words p (suc n) t) w
     -- where X^(p^k) = X modulo D, X^(p^k) − X has no inverse modulo T
     no-inverse : (L .one ≡ L .zero → ⊥) → (k : ℕ) → Ring.power L y (p ^ k) ≡ y → HasInverse p t (difference p t k) → ⊥
     no-inverse proper k e h =
-        let (v, one) = of-inverse k h in
+        let (v, one) = difference-of k h in
         let power-image : φ (Ring.power K x (p ^ k)) ≡ φ x = homomorphism-power preserves x (p ^ k) ∙ ap (λ u. Ring.power L u (p ^ k)) image-of-x ∙ e ∙ sym image-of-x in
         let vanishes : φ (differenceResidue k) ≡ L .zero =
         preserves .add (Ring.power K x (p ^ k)) (K .neg x) ∙ ap (λ u. L .add u (φ (K .neg x))) power-image ∙ sym (preserves .add x (K .neg x)) ∙ ap φ (add-neg K x)

@@ -1,8 +1,6 @@
--- Rabin's criterion, moduli of fields, and the laws on which the proofs of the functions rest.
-mod PrimeDivisor
-mod Period
+-- Rabin's criterion, the call for one modulus, and the laws on which the proofs of the functions rest.
+mod PeriodOfX
 mod Conjugates
 mod Criterion
-mod FieldModulus
 mod OneModulus
 pub mod Theorem

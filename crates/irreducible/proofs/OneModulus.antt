@@ -11,24 +11,10 @@ use Rattle.array.proofs.Padded.{front-is, holds-is}
 use Rattle.array.proofs.Words.{words-length}
 use Rattle.quotient.specs.DivisorTest.{hasDivisor}
 use Rattle.refusal.specs.Refusal.{refuse, refuseSent}
-use Rattle.refusal.proofs.Lists.{words-of, words-below}
+use Rattle.refusal.proofs.Models.{sent-model}
 use Rattle.refusal.proofs.Refusal.{Sent, sent-given, given-sent, sent-stays}
-use Rattle.irreducible.specs.Irreducible.{Model, irreducibleNumber}
-
-module _ (p n : ℕ) (t : List ℕ) where
-  pub model-of : Sent p n (t ∷ []) (t ∷ []) → Model p n t
-  model-of h = record { prime = h .prime; small = h .small; degree = (h .low, h .high); modulus = words-of p n t (h .lengths .0) (h .below .0) }
-
-  pub sent-of : Model p n t → Sent p n (t ∷ []) (t ∷ [])
-  sent-of h =
-      record {
-        prime = h .prime;
-        small = h .small;
-        low = h .degree .0;
-        high = h .degree .1;
-        lengths = (words-length (h .modulus), tt);
-        below = (words-below (h .modulus), tt);
-      }
+use Rattle.refusal.specs.Models.{Model}
+use Rattle.irreducible.specs.Irreducible.{irreducibleNumber}
 
 module _ (p n number : ℕ) (t : List ℕ) (e : number ≡ refuseSent p n (t ∷ []) (t ∷ []) 0) where
   pub one-refused : (number ≡ 0 → ⊥) → number ≡ irreducibleNumber p n t
@@ -40,7 +26,7 @@ module _ (p n number : ℕ) (t : List ℕ) (e : number ≡ refuseSent p n (t ∷
     sent = sent-given p n (t ∷ []) (t ∷ []) 0 (sym e ∙ h) .0
 
     pub one-given : Model p n t
-    one-given = model-of p n t sent
+    one-given = sent-model p n t sent
 
     module _ (b : Bool) (f : b ≡ not (hasDivisor p t)) where
       decided : irreducibleNumber p n t ≡ refuse 6 (hasDivisor p t) 0

@@ -1,3 +1,2 @@
 -- The laws on which the proofs of `conjugate` rest.
 mod Iteration
-mod Subtraction

@@ -1,4 +1,3 @@
--- Rabin's criterion, moduli of fields, and the call for one modulus.
+-- Rabin's criterion, and the call for one modulus.
 pub mod Rabin
-pub mod Passes
 pub mod Irreducible

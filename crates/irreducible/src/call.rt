@@ -11,8 +11,9 @@ ghost use mathlib.Core.Bool.{not};
 ghost use mathlib.Core.List.{[], _∷_};
 ghost use mathlib.Core.Path.{_≡_};
 ghost use Rattle.quotient.specs.DivisorTest.{hasDivisor};
+ghost use Rattle.refusal.specs.Models.{Model};
 ghost use Rattle.refusal.specs.Refusal.{refuseSent};
-ghost use Rattle.irreducible.specs.Irreducible.{Model, irreducibleNumber};
+ghost use Rattle.irreducible.specs.Irreducible.{irreducibleNumber};
 
 // The number of the first refusal from 1 to 4 that applies, 0 where none does.
 fn refusal(p: u32, n: u32, t: &[Word]) -> u32

@@ -6,7 +6,7 @@ ghost use Rattle.algebra.specs.Prime.{Prime};
 ghost use Rattle.algebra.specs.Search.{Decides};
 ghost use Rattle.array.specs.Array.{Holds};
 ghost use Rattle.modular.specs.Barrett.{Reduces};
-ghost use Rattle.irreducible.specs.Rabin.{HasInverse};
+ghost use Rattle.quotient.specs.Residue.{HasInverse};
 use linear::system::solve;
 use matrix::multiples::multiples;
 use modular::barrett::Barrett;

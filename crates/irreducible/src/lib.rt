@@ -7,4 +7,4 @@
 pub mod call;
 mod conjugate;
 mod inverse;
-pub mod rabin;
+mod rabin;

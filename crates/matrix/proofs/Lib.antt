@@ -1,4 +1,4 @@
--- The matrix whose columns are the powers of S is that of u ↦ u(S), and the loops that fill arrays.
+-- The matrices of u ↦ u(S), of u ↦ u·S and of u ↦ u^p by their columns, and the loops that fill arrays.
 mod Filled
 mod Placed
 pub mod MultiplicationMatrix

@@ -15,8 +15,8 @@ use Rattle.quotient.proofs.Ring.{residueRing, zeroResidue, constantResidue, mul
 use Rattle.quotient.proofs.Sums.{sum-zero}
 use Rattle.array.proofs.Words as Words
 use Rattle.residue.proofs.Power.{power-one}
-use Rattle.pair.specs.Pair.{Congruences, accepts}
-use Rattle.pair.proofs.Accepts as Accepts
+use Rattle.pair.specs.Pair.{Congruences, congruencesHold}
+use Rattle.pair.proofs.CongruenceTest as CongruenceTest
 
 -- −a modulo p
 abbrev negative : ℕ → ℕ → ℕ
@@ -60,16 +60,16 @@ module _ {p : ℕ} (big : 2 ≤ p) where
       rw (power-one big (one-word k) w, constant-stays (one-word k) w h) (unfold sum constant in ap (λ x. x ∷ []) (negative-add p a h))
 
   module _ {a b c d : ℕ} (ha : a < p) (hb : b < p) (hc : c < p) (hd : d < p) where
-    pub accepted-degree-one : (accepts p (a ∷ []) (b ∷ []) (c ∷ []) (d ∷ []) ≡ true) ↔ ((c ≡ negative p a) × (d ≡ negative p b))
+    pub accepted-degree-one : (congruencesHold p (a ∷ []) (b ∷ []) (c ∷ []) (d ∷ []) ≡ true) ↔ ((c ≡ negative p a) × (d ≡ negative p b))
     accepted-degree-one = (
       λ h.
-          let g : Congruences p (a ∷ []) (b ∷ []) (c ∷ []) (d ∷ []) = Accepts.congruences-accepted p (a ∷ []) (b ∷ []) (c ∷ []) (d ∷ []) h in (
+          let g : Congruences p (a ∷ []) (b ∷ []) (c ∷ []) (d ∷ []) = CongruenceTest.congruences-of-hold p (a ∷ []) (b ∷ []) (c ∷ []) (d ∷ []) h in (
             head-eq-of-cons-eq (sym (constant-stays (one-word ha) (one-word hd) hc) ∙ g .s-of-r ∙ x-is-constant ha),
             head-eq-of-cons-eq (sym (constant-stays (one-word hb) (one-word hc) hd) ∙ g .r-of-s ∙ x-is-constant hb),
           ),
       λ (e, f).
-          Accepts.accepts-congruences p (a ∷ []) (b ∷ []) (c ∷ []) (d ∷ [])
-          (Accepts.isomorphisms-of-two big 1 (omega arith) (one-word ha) (one-word hb) (one-word hc) (one-word hd)
+          CongruenceTest.hold-of-congruences p (a ∷ []) (b ∷ []) (c ∷ []) (d ∷ [])
+          (CongruenceTest.isomorphisms-of-two big 1 (omega arith) (one-word ha) (one-word hb) (one-word hc) (one-word hd)
           (ap (λ x. modulusAt p (b ∷ []) (x ∷ []) (a ∷ [])) e ∙ root-of-t1 ha hb)
           (constant-stays (one-word hb) (one-word hc) hd ∙ ap (λ x. x ∷ []) f ∙ sym (x-is-constant hb)) .0),
     )

@@ -1,7 +1,9 @@
 -- Rings that the two maps make isomorphic are fields together. Where every residue but 0 modulo T1 has an inverse, so has every residue u but 0 modulo T2: u(R) is not 0,
 -- for u(R)(S) = u, and the forward map takes an inverse of u(R) to one of u. So T1 and T2 have divisors of degree 1 to n − 1 together.
---   inverses-forth               inverses carry over to the residues modulo T2
---   second-none                  the same of the tests for divisors, from T1 to T2
+--   irreducible-forth, irreducible-back   T2 has none if T1 has none, and the other way round
+--   isomorphisms-given                    the maps of a pair whose congruences hold
+--   second-none                           where they hold, the test of T1 decides that of T2
+--   fields-given                          moduli without such divisors are those of fields
 use mathlib.Core.Path.{_≡_, sym, ap, _∙_}
 use mathlib.Core.Bool.{true, false}
 use mathlib.Core.List.{List}
@@ -9,17 +11,16 @@ use Prim.Native.Nat.{ℕ, _≤_}
 use Rattle.algebra.specs.Prime.{Prime}
 use Rattle.array.specs.Words.{Words}
 use Rattle.array.proofs.Words.{of-length, to-length}
-use Rattle.irreducible.specs.Irreducible.{Inverses}
 use Rattle.irreducible.proofs.Theorem.{inverses-of, irreducible-of}
 use Rattle.quotient.specs.Divisor.{HasDivisor}
 use Rattle.quotient.specs.DivisorTest.{hasDivisor}
 use Rattle.quotient.specs.Map.{Preserves, Undoes}
-use Rattle.quotient.specs.Residue.{constant, product}
+use Rattle.quotient.specs.Residue.{constant, product, Inverses}
 use Rattle.quotient.proofs.Decision.{irreducible-test, test-irreducible}
 use Rattle.quotient.proofs.Substitution.{zero-substitute}
-use Rattle.pair.specs.Pair.{forward, backward, Congruences, accepts}
+use Rattle.pair.specs.Pair.{forward, backward, Congruences, congruencesHold}
 use Rattle.pair.specs.Theorem.{Given, Isomorphisms, Fields}
-use Rattle.pair.proofs.Accepts.{congruences-accepted, isomorphisms-accepted}
+use Rattle.pair.proofs.CongruenceTest.{congruences-of-hold, isomorphisms-of-congruences}
 
 module _ {p n : ℕ} {t1 t2 : List ℕ} (w1 : Words p n t1) (w2 : Words p n t2) (f g : List ℕ → List ℕ) (forth : Preserves p t1 t2 f) (back : Preserves p t2 t1 g)
     (undoes : Undoes p n f g) (zero : f (constant n 0) ≡ constant n 0) where
@@ -49,13 +50,13 @@ module _ {p n : ℕ} {t1 t2 s r : List ℕ} (prime : Prime p) (some : 1 ≤ n) (
 module _ (p n : ℕ) (t1 t2 s r : List ℕ) (g : Given p n t1 t2 s r) where
   pub isomorphisms-given : Congruences p t1 t2 s r → Isomorphisms p n t1 t2 s r
   isomorphisms-given c =
-      isomorphisms-accepted (g .models .prime .0) n (g .models .degree .0) (g .models .modulus1) (g .models .modulus2) (g .words-s) (g .words-r) c
+      isomorphisms-of-congruences (g .models .prime .0) n (g .models .degree .0) (g .models .modulus1) (g .models .modulus2) (g .words-s) (g .words-r) c
 
-  pub second-none : accepts p t1 t2 s r ≡ true → hasDivisor p t1 ≡ false → hasDivisor p t2 ≡ false
+  pub second-none : congruencesHold p t1 t2 s r ≡ true → hasDivisor p t1 ≡ false → hasDivisor p t2 ≡ false
   second-none e none =
       irreducible-test (g .models .prime .0) (g .models .modulus2)
       (irreducible-forth (g .models .prime) (g .models .degree .0) (g .models .modulus1) (g .models .modulus2) (g .words-s) (g .words-r)
-      (isomorphisms-given (congruences-accepted p t1 t2 s r e)) (test-irreducible (g .models .prime .0) (g .models .modulus1) none))
+      (isomorphisms-given (congruences-of-hold p t1 t2 s r e)) (test-irreducible (g .models .prime .0) (g .models .modulus1) none))
 
   pub fields-given : (HasDivisor p t1 → ⊥) → (HasDivisor p t2 → ⊥) → Fields p n t1 t2
   fields-given none1 none2 =

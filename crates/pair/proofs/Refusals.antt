@@ -9,14 +9,14 @@ use Rattle.array.specs.Words.{Words}
 use Rattle.refusal.specs.Refusal.{refuse, refuseSent, badPrime, badDegree, badLength, badWord}
 use Rattle.refusal.proofs.Refusal.{Sent, sent-given, given-sent, sent-stays}
 use Rattle.refusal.proofs.Lists.{words-of, words-below}
-use Rattle.refusal.proofs.TwoModels.{models-sent, sent-models}
+use Rattle.refusal.proofs.Models.{models-sent, sent-models}
 use Rattle.array.proofs.Words.{words-length}
 use Rattle.array.specs.Array.{padded, Holds}
 use Rattle.array.proofs.Padded.{holds-is, front-is}
-use Rattle.irreducible.specs.Irreducible.{Model}
+use Rattle.refusal.specs.Models.{Model}
 use Rattle.quotient.specs.DivisorTest.{hasDivisor}
 use borrow.Author.Tests.{not-true, not-false}
-use Rattle.pair.specs.Pair.{accepts, refusePair, checkNumber, checkNumberOr}
+use Rattle.pair.specs.Pair.{congruencesHold, refusePair, checkNumber, checkNumberOr}
 use Rattle.pair.proofs.Fields.{second-none}
 use Rattle.pair.specs.Theorem.{Given}
 
@@ -81,7 +81,7 @@ module _ (p n : ℕ) (t1 t2 s r : List ℕ) (g : Given p n t1 t2 s r) where
       first-none : hasDivisor p t1 ≡ false
       first-none = not-true (hasDivisor p t1) (sym e ∙ not-false a f)
 
-      module _ (b : Bool) (h : b ≡ accepts p t1 t2 s r) where
+      module _ (b : Bool) (h : b ≡ congruencesHold p t1 t2 s r) where
         pub judge-accepted : b ≡ true → 0 ≡ refusePair p t1 t2 s r
         judge-accepted k = rw (first-none, second-none p n t1 t2 s r g (sym h ∙ k) first-none, ← h, k)
 
@@ -103,7 +103,7 @@ by-first number rest h k false false true d f = (λ g. absurd (omega arith), λ 
 by-first number rest h k false false false true f = (λ g. absurd (omega arith), λ g. absurd (omega arith), λ g l. refl)
 by-first number rest h k false false false false f = (λ g. absurd (h (sym f ∙ g)), λ g. absurd (k (sym f ∙ g)), λ g l. refl)
 
--- what comes after 4 is neither 1 nor 2
+-- what comes after 4 is no number from 1 to 5
 after-four : (a b c : Bool) (k : ℕ) → 0 < k → k < 6 → refuse 6 a (refuse 7 b (refuse 8 c 0)) ≡ k → ⊥
 after-four true b c k low high e = omega arith
 after-four false true c k low high e = omega arith
@@ -119,7 +119,7 @@ module _ (p n number : ℕ) (t1 t2 s r : List ℕ) (exact : Bool) (e : number �
         × ((number ≡ 1 → ⊥) → (number ≡ 2 → ⊥) → 3 ≡ checkNumberOr true p n t1 t2 s r)
     unfolding checkNumberOr
     wrong =
-        let after : (k : ℕ) → 0 < k → k < 6 → refusePair p t1 t2 s r ≡ k → ⊥ = after-four (hasDivisor p t1) (hasDivisor p t2) (not (accepts p t1 t2 s r)) in
+        let after : (k : ℕ) → 0 < k → k < 6 → refusePair p t1 t2 s r ≡ k → ⊥ = after-four (hasDivisor p t1) (hasDivisor p t2) (not (congruencesHold p t1 t2 s r)) in
         by-first number (refusePair p t1 t2 s r) (after 1 (omega arith) (omega arith)) (after 2 (omega arith) (omega arith))
         (badPrime p) (badDegree n) (badLength n (t1 ∷ t2 ∷ s ∷ r ∷ [])) (badWord p (t1 ∷ t2 ∷ s ∷ r ∷ [])) e
 
@@ -177,6 +177,6 @@ module _ (p n : ℕ) (t1 t2 s r : List ℕ) (g : Given p n t1 t2 s r) where
   holds-r a e = holds-is e (g .words-r)
 
   pub arrays-accepted : (a1 a2 b c : List ℕ) (d : Bool) → a1 ≡ padded t1 → a2 ≡ padded t2 → b ≡ padded s → c ≡ padded r
-      → d ≡ accepts p (take n a1) (take n a2) (take n b) (take n c) → d ≡ accepts p t1 t2 s r
+      → d ≡ congruencesHold p (take n a1) (take n a2) (take n b) (take n c) → d ≡ congruencesHold p t1 t2 s r
   arrays-accepted a1 a2 b c d e1 e2 f h k =
       rw (front-is e1 (g .models .modulus1), front-is e2 (g .models .modulus2), front-is f (g .words-s), front-is h (g .words-r)) at k

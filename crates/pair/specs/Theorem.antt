@@ -1,6 +1,6 @@
 -- The checker's half of demand 3: what the answer 0 of `check` means. Read this file first; every name in it is explained here, in Pair.antt
--- beside it, in Residue.antt, Map.antt and Divisor.antt of the crate quotient, in Irreducible.antt of the crate irreducible, or in Prime.antt of the crate
--- algebra. For every p, n and all lists: the answer is 0 exactly when p is a prime up to 65,535, n is 1 to 16, the four lists are n words below p, neither
+-- beside it, in Residue.antt, Map.antt and Divisor.antt of the crate quotient, in Words.antt of the crate array, in Models.antt of the crate refusal, or in
+-- Prime.antt of the crate algebra. For every p, n and all lists: the answer is 0 exactly when p is a prime up to 65,535, n is 1 to 16, the four lists are n words below p, neither
 -- modulus has a monic divisor of degree 1 to n − 1 and the four congruences hold; and then every residue but 0 has an inverse on both sides, the two maps
 -- preserve sums, products and one on all residues, and each undoes the other.
 --   Models p n t1 t2             (of refusal) p is a prime up to 65,535, n is 1 to 16, t1 and t2 are n words below p each
@@ -20,9 +20,8 @@ use Rattle.quotient.specs.Divisor.{HasDivisor}
 use Rattle.quotient.specs.Map.{Preserves, Undoes}
 use Rattle.array.specs.Words.{Words}
 use Rattle.refusal.specs.Models.{Models}
-use Rattle.irreducible.specs.Irreducible.{Inverses}
-use Rattle.pair.specs.Pair.{forward, backward, Congruences, accepts, checkNumber}
-use Rattle.quotient.specs.Residue.{residueOfX}
+use Rattle.pair.specs.Pair.{forward, backward, Congruences, congruencesHold, checkNumber}
+use Rattle.quotient.specs.Residue.{residueOfX, Inverses}
 
 pub record Given (p n : ℕ) (t1 t2 s r : List ℕ) : Type 0 where
   pub models : Models p n t1 t2
@@ -60,4 +59,4 @@ abbrev pub DegreeOne : Type 0
 DegreeOne =
     (p a b c d : ℕ) → 2 ≤ p → a < p → b < p → c < p → d < p
     → (residueOfX p (a ∷ []) ≡ (p - a) % p ∷ [])
-    × ((accepts p (a ∷ []) (b ∷ []) (c ∷ []) (d ∷ []) ≡ true) ↔ ((c ≡ (p - a) % p) × (d ≡ (p - b) % p)))
+    × ((congruencesHold p (a ∷ []) (b ∷ []) (c ∷ []) (d ∷ []) ≡ true) ↔ ((c ≡ (p - a) % p) × (d ≡ (p - b) % p)))

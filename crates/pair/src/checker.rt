@@ -1,5 +1,5 @@
-// The checker: the refusals of a pair, in the order of document 01, and the answer.
-use crate::congruence::accepts;
+// The checker: the refusals of a pair, in the order of document 01 with 6 and 7 of request S-3, and the answer.
+use crate::congruence::congruent;
 use array::Word;
 use array::copy::load;
 use irreducible::call::is_field;
@@ -12,7 +12,7 @@ ghost use mathlib.Core.Bool.{not};
 ghost use mathlib.Core.Path.{_≡_};
 ghost use mathlib.Core.List.{[], _∷_};
 ghost use Rattle.refusal.specs.Refusal.{refuseSent};
-ghost use Rattle.pair.specs.Pair.{accepts as acceptsPair, refusePair, checkNumber, checkNumberOr};
+ghost use Rattle.pair.specs.Pair.{congruencesHold, refusePair, checkNumber, checkNumberOr};
 ghost use Rattle.pair.specs.Theorem.{Given};
 
 // The number of the first refusal from 1 to 4 that applies, 0 where none does.
@@ -36,9 +36,9 @@ fn refusal(p: u32, n: u32, t1: &[Word], t2: &[Word], s: &[Word], r: &[Word]) -> 
 // Whether the four congruences hold, for lists to which 1 to 4 do not apply.
 pub fn congruences_hold(p: u32, n: u32, t1: &[Word], t2: &[Word], s: &[Word], r: &[Word]) -> bool
     requires { ⌜ Given p n (now t1) (now t2) (now s) (now r) ⌝ }
-    ensures { λ b. ⌜ b ≡ acceptsPair p (now (t1 .entry)) (now (t2 .entry)) (now (s .entry)) (now (r .entry)) ⌝ }
+    ensures { λ b. ⌜ b ≡ congruencesHold p (now (t1 .entry)) (now (t2 .entry)) (now (s .entry)) (now (r .entry)) ⌝ }
 {
-    accepts(
+    congruent(
         p as u64,
         n as usize,
         &load(t1),

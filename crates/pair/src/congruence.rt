@@ -12,7 +12,7 @@ ghost use Rattle.algebra.specs.Lists.{equal};
 ghost use Rattle.quotient.specs.Residue.{constant, modulusAt};
 ghost use Rattle.array.specs.Array.{Holds};
 ghost use Rattle.matrix.specs.Matrix.{Powers};
-ghost use Rattle.pair.specs.Pair.{accepts as acceptsPair};
+ghost use Rattle.pair.specs.Pair.{congruencesHold};
 
 // Whether T1(S) = 0 modulo T, by the matrix of the powers of S: S^n is opposite to what the lower words of T1 give.
 fn is_root(p: u64, n: usize, t: &[u64; 16], s: &[u64; 16], m: &[u64; 256], t1: &[u64; 16]) -> bool
@@ -27,7 +27,7 @@ fn is_root(p: u64, n: usize, t: &[u64; 16], s: &[u64; 16], m: &[u64; 256], t1: &
 }
 
 // Whether the four congruences hold.
-pub fn accepts(
+pub fn congruent(
     p: u64,
     n: usize,
     t1: &[u64; 16],
@@ -37,7 +37,7 @@ pub fn accepts(
 ) -> bool
     requires { ⌜ (2 ≤ p) × (p ≤ 2 ^ 20) × (1 ≤ n) × (n ≤ 16) ⌝ }
     requires { ⌜ Holds p n (now t1) × Holds p n (now t2) × Holds p n (now s) × Holds p n (now r) ⌝ }
-    ensures { λ b. ⌜ b ≡ acceptsPair p (take n (now (t1 .entry))) (take n (now (t2 .entry))) (take n (now (s .entry))) (take n (now (r .entry))) ⌝ }
+    ensures { λ b. ⌜ b ≡ congruencesHold p (take n (now (t1 .entry))) (take n (now (t2 .entry))) (take n (now (s .entry))) (take n (now (r .entry))) ⌝ }
 {
     let mut m = [0; 256];
     powers(p, n, t2, s, &mut m);

@@ -17,7 +17,7 @@ use Rattle.finder.specs.Finder.{findable, findNumber}
 use Rattle.modular.specs.Prime.{isPrime}
 use Rattle.array.specs.Words.{allBelow}
 use Rattle.refusal.specs.Refusal.{badPrime, isDegree, badDegree, badLength, badWord}
-use Rattle.pair.specs.Pair.{accepts, checkNumberOr}
+use Rattle.pair.specs.Pair.{congruencesHold, checkNumberOr}
 use Rattle.quotient.specs.Divisor.{monic, polynomialProduct}
 use Rattle.quotient.specs.DivisorTest.{dividesTest, hasDivisor}
 use Rattle.quotient.specs.Residue.{residues, prefixed, sum, scale, constant, shift, top, timesX, product, power, residueOfX, substitute, modulusAt}
@@ -32,7 +32,7 @@ use Rattle.promises.proofs.Refused.{words-counted, factor-divides, indi
 
 pub examples : Examples
 unfolding hasDivisor dividesTest residues prefixed all equal first range bits numberFrom bytes packed width allBits card badKind cardLength writeNumber
-    writeOutput zeta rootOfRatio firstNonZero findable findNumber isPrime badPrime isDegree badDegree badLength badWord allBelow accepts checkNumberOr
+    writeOutput zeta rootOfRatio firstNonZero findable findNumber isPrime badPrime isDegree badDegree badLength badWord allBelow congruencesHold checkNumberOr
     monic polynomialProduct sum scale constant shift top timesX product power residueOfX substitute modulusAt padded valid validAs validHeld viewAs
     view pairedHeld eachGroup converted tableNumber validWith counted convertFrom convertNumber outputBy unpacked fieldAt cardPrime cardDegree cardKind
     fieldsAt cardWords fillBits readNumber part cardPart ringText printed pairLine pairCardText cardText

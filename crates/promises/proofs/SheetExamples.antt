@@ -5,7 +5,7 @@ use Rattle.algebra.specs.Lists.{all, equal, first, range}
 use Rattle.modular.specs.Prime.{isPrime}
 use Rattle.array.specs.Words.{allBelow}
 use Rattle.refusal.specs.Refusal.{badPrime, isDegree, badDegree, badLength, badWord}
-use Rattle.pair.specs.Pair.{accepts, checkNumberOr}
+use Rattle.pair.specs.Pair.{congruencesHold, checkNumberOr}
 use Rattle.quotient.specs.DivisorTest.{dividesTest, hasDivisor}
 use Rattle.quotient.specs.Residue.{residues, prefixed, sum, scale, constant, shift, top, timesX, product, power, residueOfX, substitute, modulusAt}
 use Rattle.text.specs.Ascii.{ascii}
@@ -15,7 +15,7 @@ use Rattle.sheet.specs.Sheet.{centred, columns, line, lines, polynomial, sheetT
 use Rattle.promises.specs.SheetExamples.{SheetExamples}
 
 pub sheet-examples : SheetExamples
-unfolding hasDivisor dividesTest residues prefixed all equal first range isPrime allBelow badPrime isDegree badDegree badLength badWord accepts checkNumberOr sum scale constant shift top timesX product power residueOfX substitute modulusAt
+unfolding hasDivisor dividesTest residues prefixed all equal first range isPrime allBelow badPrime isDegree badDegree badLength badWord congruencesHold checkNumberOr sum scale constant shift top timesX product power residueOfX substitute modulusAt
     ascii decimal lastDigits blanks signedDecimal rightJustified filled centred columns line lines polynomial sheetText sheetLength sheetNumber sheetOutput
 sheet-examples =
     record {

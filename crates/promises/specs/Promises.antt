@@ -10,11 +10,11 @@ use Rattle.card.specs.Theorem.{WrittenReadsBack, ReadIsWritten, LongestCard}
 use Rattle.cvalue.specs.Theorem.{ValuesFollow}
 use Rattle.finder.specs.Theorem.{Demand3Theorem}
 use Rattle.modular.specs.Prime.{PrimeTestIsExact}
-use Rattle.irreducible.specs.Irreducible.{FieldExactly, IrreducibleTheorem}
+use Rattle.irreducible.specs.Irreducible.{IrreducibleTheorem}
 use Rattle.irreducible.specs.Rabin.{RabinsCriterion}
 use Rattle.pair.specs.Theorem.{CheckerTheorem, CongruencesTheorem, DivisorsTogether, DegreeOne}
 use Rattle.quotient.specs.DivisorTest.{DivisorTestIsExact}
-use Rattle.quotient.specs.Theorem.{ResiduesAreARing, ModulusVanishes, ProductIsRemainder, SubstitutionIsSum, SubstitutionPreserves, ResiduesAreListed, NonZeroIsUnit, PowerOfUnit, IrreducibleDivisor, FrobeniusIsLinear}
+use Rattle.quotient.specs.Theorem.{ResiduesAreARing, ModulusVanishes, ProductIsRemainder, SubstitutionIsSum, SubstitutionPreserves, ResiduesAreListed, FieldExactly, PowerOfUnit, IrreducibleDivisor, FrobeniusIsLinear}
 use Rattle.held.specs.Theorem.{CountsAsHeld}
 use Rattle.ledger.specs.Theorem.{AddedBehind, ReportDetermines}
 use Rattle.session.specs.Theorem.{EveryRun, RefusalsChangeNothing, GroupByGroup, BackAgain, ConversionAddsRecord, OthersKeepLedger, TotalsCount}
@@ -50,15 +50,13 @@ pub record Promises : Type 0 where
   -- Demand 3, whole (finder/specs/Theorem.antt)
   pub demand-3 : Demand3Theorem
   -- what makes it so (quotient/specs/Theorem.antt): fields of residues
-  pub nonzero-is-unit : NonZeroIsUnit
+  pub field-exactly : FieldExactly
   pub power-of-unit : PowerOfUnit
   pub irreducible-divisor : IrreducibleDivisor
   pub frobenius-is-linear : FrobeniusIsLinear
-  -- Fields only, request S-3 (irreducible/specs/Rabin.antt, Irreducible.antt, pair/specs/Theorem.antt): Rabin's criterion; T has no proper divisor exactly when every residue but
-  -- 0 has an inverse; what the call for one modulus answers; the four congruences alone make inverse isomorphisms of rings, over any moduli; and then T1 and T2
-  -- have proper divisors together
+  -- Fields only, request S-3 (irreducible/specs/Rabin.antt, Irreducible.antt, pair/specs/Theorem.antt): Rabin's criterion; what the call for one modulus answers; the four
+  -- congruences alone make inverse isomorphisms of rings, over any moduli; and then T1 and T2 have proper divisors together
   pub rabins-criterion : RabinsCriterion
-  pub field-exactly : FieldExactly
   pub irreducible-modulus : IrreducibleTheorem
   pub congruences-suffice : CongruencesTheorem
   pub divisors-together : DivisorsTogether

@@ -15,5 +15,6 @@ pub mod Decision
 pub mod Descent
 pub mod Units
 pub mod Field
+pub mod FieldModulus
 pub mod Frobenius
 pub mod Theorem

@@ -3,7 +3,7 @@
 --   reduce f   the polynomial f modulo T
 use mathlib.Core.Path.{_≡_, refl, sym, ap, _∙_}
 use mathlib.Core.List.{List, [], _∷_}
-use Prim.Native.Nat.{ℕ, suc, _≤_}
+use Prim.Native.Nat.{ℕ, suc, _-_, _≤_}
 use lib.ListN.{replicate}
 use Rattle.algebra.specs.Ring.{CommutativeRing, numeral}
 use Rattle.algebra.proofs.RingLaws.{numeral-one, mul-zero}
@@ -11,15 +11,16 @@ use Rattle.array.specs.Words.{Words}
 use Rattle.quotient.specs.Residue.{Residue, sum, scale, constant, product, residueOfX, modulusAt}
 use Rattle.quotient.specs.Divisor.{Same, polynomialProduct, monic}
 use Rattle.quotient.proofs.Evaluation.{evaluate, evaluate-nil, evaluate-cons, evaluate-sum, evaluate-scale, evaluate-product, evaluate-same, repeated-is}
-use Rattle.quotient.proofs.Ring.{residueRing, oneResidue, zeroResidue, constantResidue, addResidue, mulResidue, act-one, repeated-scale, xResidue, numeral-vanishes, modulus-vanishes}
+use Rattle.quotient.proofs.Ring.{residueRing, residueModule, oneResidue, zeroResidue, constantResidue, addResidue, mulResidue, act-one, repeated-scale, xResidue, numeral-vanishes, modulus-vanishes}
 use Rattle.quotient.proofs.Operations.{residue-path, constant-zero}
 use Rattle.quotient.proofs.Substitution.{modulusAt-is, evaluate-x}
 
 module _ {p n : ℕ} {t : List ℕ} (big : 2 ≤ p) (wt : Words p n t) where
-  open CommutativeRing (residueRing big wt) using (zero as 𝟎, one as 𝟏, add as _⊕_, mul as _⊗_)
+  open CommutativeRing (residueRing big wt) using (zero as 𝟎, one as 𝟏, add as _⊕_, neg as ⊖_, mul as _⊗_)
 
   infixl 60 _⊕_
   infixl 70 _⊗_
+  infix 80 ⊖_
   pub zero-is : 𝟎 .0 ≡ constant n 0
   unfolding residueRing zeroResidue constantResidue
   zero-is = refl
@@ -31,6 +32,10 @@ module _ {p n : ℕ} {t : List ℕ} (big : 2 ≤ p) (wt : Words p n t) where
   pub add-is : (u v : Residue p n) → (u ⊕ v) .0 ≡ sum p (u .0) (v .0)
   unfolding residueRing addResidue
   add-is u v = refl
+
+  pub neg-is : (u : Residue p n) → (⊖ u) .0 ≡ scale p (p - 1) (u .0)
+  unfolding residueRing residueModule
+  neg-is u = refl
 
   pub mul-is : (u v : Residue p n) → (u ⊗ v) .0 ≡ product p t (u .0) (v .0)
   unfolding residueRing mulResidue

@@ -7,6 +7,7 @@ use Rattle.quotient.specs.Divisor.{polynomialProduct}
 use Rattle.quotient.proofs.Decision as Decision
 use Rattle.quotient.proofs.Descent as Descent
 use Rattle.quotient.proofs.Field as Field
+use Rattle.quotient.proofs.FieldModulus as FieldModulus
 use Rattle.quotient.proofs.Frobenius as Frobenius
 use Rattle.quotient.proofs.Listing as Listing
 use Rattle.quotient.proofs.Reduction as Reduction
@@ -14,7 +15,6 @@ use Rattle.quotient.proofs.Remainder as Division
 use Rattle.quotient.proofs.Ring as Residues
 use Rattle.quotient.proofs.Substitution as Substitution
 use Rattle.quotient.proofs.SumOfPowers as SumOfPowers
-use Rattle.quotient.proofs.Units as Units
 
 pub residues-are-a-ring : Theorem.ResiduesAreARing
 residues-are-a-ring p n t big wt = Residues.residues-are-a-ring big wt
@@ -36,10 +36,8 @@ substitution-preserves p m n t1 t2 s big w1 w2 ws root = Substitution.substituti
 pub residues-are-listed : Theorem.ResiduesAreListed
 residues-are-listed p n = (Listing.residues-distinct p n, Listing.residues-length p n, Listing.residues-complete p n, Listing.residues-sound p n)
 
-pub nonzero-is-unit : Theorem.NonZeroIsUnit
-nonzero-is-unit p n t u prime wt irreducible wu h =
-    let (v, e) = Units.nonzero-invertible prime wt irreducible (u, wu) (λ z. h (ap (λ w. w .0) z ∙ Reduction.zero-is (prime .0) wt)) in
-    (v .0, v .1, sym (Reduction.mul-is (prime .0) wt (u, wu) v) ∙ ap (λ w. w .0) e ∙ Reduction.one-is (prime .0) wt)
+pub field-exactly : Theorem.FieldExactly
+field-exactly p n t prime wt = (FieldModulus.inverses-irreducible prime wt, FieldModulus.irreducible-inverses prime wt)
 
 pub power-of-unit : Theorem.PowerOfUnit
 power-of-unit p n t u prime wt irreducible wu h =

@@ -52,11 +52,13 @@ unfolding scale
 scale-last p c [] a = refl
 scale-last p c (b ∷ w) a = ap ((c * b) % p ∷_) (scale-last p c w a)
 
-zero-last-same : (p : ℕ) (w : List ℕ) → Same p (w ++ 0 ∷ []) w
-zero-last-same p [] zero = refl
-zero-last-same p [] (suc i) = refl
-zero-last-same p (a ∷ w) zero = refl
-zero-last-same p (a ∷ w) (suc i) = zero-last-same p w i
+-- zeros at the end change nothing
+pub zeros-same : (p k : ℕ) (f : List ℕ) → Same p (f ++ replicate k 0) f
+zeros-same p zero [] i = refl
+zeros-same p (suc k) [] zero = refl
+zeros-same p (suc k) [] (suc i) = zeros-same p k [] i
+zeros-same p k (a ∷ f) zero = refl
+zeros-same p k (a ∷ f) (suc i) = zeros-same p k f i
 
 zeros-last : (m : ℕ) → _++_ {A = ℕ} (replicate m 0) (0 ∷ []) ≡ replicate (suc m) 0
 zeros-last zero = refl
@@ -114,7 +116,7 @@ module _ {p n : ℕ} {t : List ℕ} (prime : Prime p) (wt : Words p (suc n) t) (
   by-last-word m l w a ww below smaller = ⊎-elim (λ z. subst (λ c. ZeroOrUnit (suc m) (w ++ c ∷ [])) (sym z) dropped) monic-made (eq-zero-or-pos a)
     where
       same : modulo w ≡ modulo (w ++ 0 ∷ [])
-      same = sym (reduce-same big wt (w ++ 0 ∷ []) w (zero-last-same p w))
+      same = sym (reduce-same big wt (w ++ 0 ∷ []) w (zeros-same p 1 w))
 
       dropped : ZeroOrUnit (suc m) (w ++ 0 ∷ [])
       dropped = ⊎-elim (λ e. inl (ap (λ v. v ++ 0 ∷ []) e ∙ zeros-last m)) (λ h. inr (subst (Invertible K) same h)) (smaller w ww)

@@ -13,6 +13,9 @@
 --   residueOfX p t       X modulo T; for n = 1 the constant −t0
 --   substitute p t s u   u(S) modulo T, by Horner's rule
 --   modulusAt p t s m    M(S) modulo T, where M is the monic polynomial with the lower words m
+--   HasInverse p t u     u·v = 1 modulo T for some residue v
+--   Inverses p n t       every residue modulo T but 0 has an inverse
+use mathlib.Core.Path.{_≡_}
 use mathlib.Core.Bool.{Bool}
 use mathlib.Core.List.{List, [], _∷_, _++_, map}
 use Prim.Native.Nat.{ℕ, zero, suc, _+_, _-_, _*_, _%_}
@@ -78,3 +81,9 @@ substitute p t s (c ∷ u) = sum p (constant (length t) c) (product p t s (subst
 
 unfoldable pub modulusAt : ℕ → List ℕ → List ℕ → List ℕ → List ℕ
 modulusAt p t s m = sum p (power p t s (length m)) (substitute p t s m)
+
+abbrev pub HasInverse : ℕ → List ℕ → List ℕ → Type 0
+HasInverse p t u = (v : List ℕ) × Words p (length t) v × (product p t u v ≡ constant (length t) 1)
+
+abbrev pub Inverses : ℕ → ℕ → List ℕ → Type 0
+Inverses p n t = (u : List ℕ) → Words p n u → (u ≡ constant n 0 → ⊥) → HasInverse p t u

@@ -6,12 +6,13 @@
 --   SubstitutionIsSum       u(S) modulo T is the sum of the u_i·S^i, the powers by repeated product
 --   SubstitutionPreserves   if T1(S) = 0 modulo T2, then u ↦ u(S) modulo T2 preserves sums, products and one
 --   ResiduesAreListed       the list of all residues has each of them, none twice, p^n in all
---   NonZeroIsUnit           p prime, T without a divisor of degree 1 to n − 1: every residue but 0 has an inverse
+--   FieldExactly            p prime: every residue but 0 has an inverse exactly when T has no divisor of degree 1 to n − 1
 --   PowerOfUnit             for such T, u^(p^n − 1) = 1 for every residue u but 0
 --   IrreducibleDivisor      p prime: T has a monic divisor of degree 1 to n that has itself no divisor of lower degree but constants
 --   FrobeniusIsLinear       p prime: (u + v)^p = u^p + v^p and (c·u)^p = c·u^p
 use mathlib.Core.Path.{_≡_}
 use mathlib.Core.List.{List, [], _∷_}
+use mathlib.Core.Logic.{_↔_}
 use Prim.Native.Nat.{ℕ, zero, suc, _-_, _^_, _≤_, _<_}
 use lib.ListN.{length}
 use Rattle.algebra.specs.Lists.{Member, Distinct}
@@ -20,7 +21,7 @@ use Rattle.algebra.specs.Ring.{CommutativeRing}
 use Rattle.quotient.specs.Divisor.{Divides, HasDivisor, Remainder, polynomialProduct}
 use Rattle.quotient.specs.Map.{Preserves}
 use Rattle.array.specs.Words.{Words}
-use Rattle.quotient.specs.Residue.{Residue, residues, sum, scale, constant, product, power, residueOfX, substitute, modulusAt}
+use Rattle.quotient.specs.Residue.{Residue, residues, sum, scale, constant, product, power, residueOfX, substitute, modulusAt, Inverses}
 
 pub record RingOfResidues (p n : ℕ) (t : List ℕ) : Type 0 where
   pub ring : CommutativeRing (Residue p n)
@@ -60,10 +61,8 @@ ResiduesAreListed =
     (p n : ℕ) → Distinct (residues p n) × (length (residues p n) ≡ p ^ n)
     × ((u : List ℕ) → Words p n u → Member u (residues p n)) × ((u : List ℕ) → Member u (residues p n) → Words p n u)
 
-abbrev pub NonZeroIsUnit : Type 0
-NonZeroIsUnit =
-    (p n : ℕ) (t u : List ℕ) → Prime p → Words p (suc n) t → (HasDivisor p t → ⊥) → Words p (suc n) u → (u ≡ constant (suc n) 0 → ⊥)
-    → (v : List ℕ) × Words p (suc n) v × (product p t u v ≡ constant (suc n) 1)
+abbrev pub FieldExactly : Type 0
+FieldExactly = (p n : ℕ) (t : List ℕ) → Prime p → Words p (suc n) t → Inverses p (suc n) t ↔ (HasDivisor p t → ⊥)
 
 abbrev pub PowerOfUnit : Type 0
 PowerOfUnit =

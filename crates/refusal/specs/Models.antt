@@ -1,4 +1,5 @@
--- Two models of one size (document 01, "Models and residues"): what 1 to 4 do not refuse.
+-- A model, and two models of one size (document 01, "Models and residues"): what 1 to 4 do not refuse.
+--   Model p n t        p is a prime up to 65,535, n is 1 to 16, and t is n words below p
 --   Models p n t1 t2   p is a prime up to 65,535, n is 1 to 16, and t1 and t2 are n words below p each
 use mathlib.Core.List.{List}
 use Prim.Native.Nat.{ℕ, _≤_}
@@ -6,6 +7,12 @@ use Rattle.algebra.specs.Prime.{Prime}
 use Rattle.array.specs.Words.{Words}
 use Rattle.modular.specs.Prime.{largestPrime}
 use Rattle.refusal.specs.Refusal.{largestDegree}
+
+pub record Model (p n : ℕ) (t : List ℕ) : Type 0 where
+  pub prime : Prime p
+  pub small : p ≤ largestPrime
+  pub degree : (1 ≤ n) × (n ≤ largestDegree)
+  pub modulus : Words p n t
 
 pub record Models (p n : ℕ) (t1 t2 : List ℕ) : Type 0 where
   pub prime : Prime p

@@ -8,7 +8,7 @@ use Rattle.quotient.proofs.Decision.{test-irreducible}
 use Rattle.refusal.specs.Refusal.{refuseSent, written}
 use Rattle.array.specs.Words.{Words, wordBound}
 use Rattle.refusal.proofs.Refusal.{Sent, sent-given, given-sent, sent-stays}
-use Rattle.refusal.proofs.TwoModels.{sent-models}
+use Rattle.refusal.proofs.Models.{sent-models}
 use Rattle.array.proofs.Words.{words-length, words-up}
 use Rattle.array.specs.Array.{padded, Holds}
 use Rattle.refusal.proofs.Written.{output-new, output-old}

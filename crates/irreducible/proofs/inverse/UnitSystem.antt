@@ -15,16 +15,16 @@ use Rattle.algebra.proofs.RingLaws.{zero-mul}
 use Rattle.array.specs.Array.{Holds, Square, rowProduct}
 use Rattle.array.specs.Words.{Words}
 use Rattle.array.proofs.Padded.{words-at, front-is, holds-is}
-use Rattle.array.proofs.Words.{of-length, to-length, words-length, words-same}
+use Rattle.array.proofs.Words.{words-length, words-same}
 use Rattle.linear.specs.System.{Outcome}
 use Rattle.matrix.specs.Matrix.{Multiples, multiple}
 use Rattle.matrix.proofs.MultiplicationMatrix.{row-multiplies}
-use Rattle.quotient.specs.Residue.{Residue, constant, product}
+use Rattle.quotient.specs.Residue.{Residue, constant, product, HasInverse}
+use Rattle.quotient.proofs.FieldModulus.{has-inverse, inverse-of}
 use Rattle.quotient.proofs.Operations.{constant-words, constant-zero, product-words, residue-path}
 use Rattle.quotient.proofs.Reduction.{mul-is, one-is, zero-is}
 use Rattle.quotient.proofs.Ring.{residueRing}
 use Rattle.residue.proofs.Power.{constant-array}
-use Rattle.irreducible.specs.Rabin.{HasInverse}
 
 -- the right side
 pub one-holds : (p n : ℕ) → Prime p → 1 ≤ n → n ≤ 16 → Holds p n (set (replicate 16 0) 0 1)
@@ -45,21 +45,21 @@ module _ {p n : ℕ} {t w m : List ℕ} (big : 2 ≤ p) (wt : Words p n t) (ww :
   abbrev K : CommutativeRing (Residue p n)
   K = residueRing big wt
 
+  abbrev a : Residue p n
+  a = (w, ww)
+
   -- v·w = 0 and w·y = 1 make v = 0
   no-inverse : (v : Residue p n) → product p t (v .0) w ≡ constant n 0 → (v .0 ≡ constant n 0 → ⊥) → HasInverse p t w → ⊥
-  no-inverse v zero other (y, wy, e) =
-      let a : Residue p n = (w, ww) in
-      let b : Residue p n = (y, of-length wt wy) in
-      let one : K .mul a b ≡ K .one = residue-path (mul-is big wt a b ∙ e ∙ ap (λ k. constant k 1) (words-length wt) ∙ sym (one-is big wt)) in
+  no-inverse v zero other h =
+      let (y, one) = inverse-of big wt a h in
       let none : K .mul v a ≡ K .zero = residue-path (mul-is big wt v a ∙ zero ∙ sym (zero-is big wt)) in
-      other (ap (λ u. u .0) (sym (K .mul-one v) ∙ ap (K .mul v) (sym one) ∙ sym (K .mul-assoc v a b) ∙ ap (λ u. K .mul u b) none ∙ zero-mul K b) ∙ zero-is big wt)
+      other (ap (λ u. u .0) (sym (K .mul-one v) ∙ ap (K .mul v) (sym one) ∙ sym (K .mul-assoc v a y) ∙ ap (λ u. K .mul u y) none ∙ zero-mul K y) ∙ zero-is big wt)
 
   -- w·v = v·w = 1
   inverse-found : {v : List ℕ} → Words p n v → product p t v w ≡ constant n 1 → HasInverse p t w
   inverse-found {v} wv e =
-      let a : Residue p n = (w, ww) in
       let b : Residue p n = (v, wv) in
-      (v, to-length wt wv, sym (mul-is big wt a b) ∙ ap (λ u. u .0) (K .mul-comm a b) ∙ mul-is big wt b a ∙ e ∙ ap (λ k. constant k 1) (sym (words-length wt)))
+      has-inverse big wt a (b, K .mul-comm a b ∙ residue-path (mul-is big wt b a ∙ e ∙ sym (one-is big wt)))
 
 -- the answer of elimination
 

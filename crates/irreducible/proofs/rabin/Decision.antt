@@ -16,10 +16,9 @@ use Rattle.array.specs.Words.{Words}
 use Rattle.array.proofs.Words.{words-length}
 use Rattle.quotient.specs.Divisor.{HasDivisor}
 use Rattle.quotient.specs.DivisorTest.{hasDivisor}
-use Rattle.quotient.specs.Residue.{residueOfX}
+use Rattle.quotient.specs.Residue.{residueOfX, HasInverse}
 use Rattle.quotient.proofs.Decision.{test-has-divisor, test-irreducible}
-use Rattle.irreducible.specs.Rabin.{conjugate, difference, HasInverse, Rabin}
-use Rattle.irreducible.specs.Passes.{Passes}
+use Rattle.irreducible.specs.Rabin.{conjugate, difference, Passes, Rabin}
 use Rattle.irreducible.proofs.Criterion.{irreducible-rabin, rabin-irreducible}
 use Rattle.irreducible.proofs.rabin.Primes.{primes, prime-listed, listed-prime, divisor-small}
 

@@ -15,9 +15,8 @@ use Rattle.algebra.proofs.Lists.{all-member}
 use Rattle.algebra.proofs.Scan.{getD-member}
 use Rattle.array.specs.Array.{padded, Holds}
 use Rattle.array.proofs.Padded.{array-length, front-is, holds-is}
-use Rattle.quotient.specs.Residue.{residueOfX}
-use Rattle.irreducible.specs.Rabin.{conjugate, difference, HasInverse}
-use Rattle.irreducible.specs.Passes.{Passes}
+use Rattle.quotient.specs.Residue.{residueOfX, HasInverse}
+use Rattle.irreducible.specs.Rabin.{conjugate, difference, Passes}
 use Rattle.irreducible.proofs.Conjugates.{conjugate-words, difference-words}
 
 module _ (p n : ℕ) (t : List ℕ) (prime : Prime p) (short : n ≤ 16) (ht : Holds p n t) where

@@ -1,4 +1,4 @@
--- The two tests of `accepts`, from one matrix of the powers of S modulo T2: what each array holds, and what the tests decide.
+-- The two tests of `congruent`, from one matrix of the powers of S modulo T2: what each array holds, and what the tests decide.
 use mathlib.Core.Path.{_≡_, sym, ap, ap₂, _∙_}
 use mathlib.Core.Bool.{Bool, true, false, not, _&&_}
 use mathlib.Core.List.{List}
@@ -15,8 +15,8 @@ use Rattle.array.specs.Array.{padded, Holds}
 use Rattle.matrix.specs.Matrix.{Powers, column, matrixProduct}
 use Rattle.matrix.proofs.PowerMatrix.{column-is-power, apply-is-substitute}
 use Rattle.array.proofs.Padded.{array-length, holds-is, front-is}
-use Rattle.pair.specs.Pair.{accepts}
-use Rattle.pair.proofs.Accepts as Accepts
+use Rattle.pair.specs.Pair.{congruencesHold}
+use Rattle.pair.proofs.CongruenceTest as CongruenceTest
 
 module _ (p n : ℕ) (t s m : List ℕ) (h : Powers p n (take n t) (take n s) m) (x : Holds p n t) (y : Holds p n s) (big : 2 ≤ p) (some : 1 ≤ n)
     (short : n ≤ 16) where
@@ -66,16 +66,16 @@ module _ (p n : ℕ) (t s m : List ℕ) (h : Powers p n (take n t) (take n s) m)
 
   -- the two tests
   module _ (t1 r : List ℕ) (z : Holds p n t1) (w : Holds p n r) (b : Bool) (k : b ≡ equal (modulusAt p (take n t) (take n s) (take n t1)) (constant n 0)) where
-    tests : (b && equal (substitute p (take n t) (take n s) (take n r)) (residueOfX p (take n t))) ≡ accepts p (take n t1) (take n t) (take n s) (take n r)
+    tests : (b && equal (substitute p (take n t) (take n s) (take n r)) (residueOfX p (take n t))) ≡ congruencesHold p (take n t1) (take n t) (take n s) (take n r)
     tests =
         ap (λ a. a && equal (substitute p (take n t) (take n s) (take n r)) (residueOfX p (take n t))) k
-        ∙ Accepts.accepts-two big n some (z .words) (x .words) (y .words) (w .words)
+        ∙ CongruenceTest.hold-of-two big n some (z .words) (x .words) (y .words) (w .words)
 
-    pub root-fails : not b ≡ true → false ≡ accepts p (take n t1) (take n t) (take n s) (take n r)
+    pub root-fails : not b ≡ true → false ≡ congruencesHold p (take n t1) (take n t) (take n s) (take n r)
     root-fails f = ap (λ a. a && equal (substitute p (take n t) (take n s) (take n r)) (residueOfX p (take n t))) (sym (not-true b f)) ∙ tests
 
     pub inverse-decides : (image : List ℕ) (c : Bool) → not b ≡ false → image ≡ padded (matrixProduct p n m (take n r)) → c ≡ equal (take n image) (residueOfX p (take n t))
-        → c ≡ accepts p (take n t1) (take n t) (take n s) (take n r)
+        → c ≡ congruencesHold p (take n t1) (take n t) (take n s) (take n r)
     inverse-decides image c f e g =
         g ∙ ap (λ l. equal l (residueOfX p (take n t))) (image-front r image w e)
         ∙ ap (λ a. a && equal (substitute p (take n t) (take n s) (take n r)) (residueOfX p (take n t))) (sym (not-false b f)) ∙ tests

@@ -15,8 +15,8 @@ load-requires-3 c κs = search (short-1, short-2, short-s, short-r)
 load-requires-4 : tie.Need-load-requires-4
 load-requires-4 c κs = search (short-1, short-2, short-s, short-r)
 
-accepts-requires : tie.Need-accepts-requires
-accepts-requires c κs = (search in-range, (search (holds-1, holds-2, holds-s, holds-r), search (holds-1, holds-2, holds-s, holds-r), search (holds-1, holds-2, holds-s, holds-r), search (holds-1, holds-2, holds-s, holds-r)))
+congruent-requires : tie.Need-congruent-requires
+congruent-requires c κs = (search in-range, (search (holds-1, holds-2, holds-s, holds-r), search (holds-1, holds-2, holds-s, holds-r), search (holds-1, holds-2, holds-s, holds-r), search (holds-1, holds-2, holds-s, holds-r)))
 
 returns : tie.Need-returns
 returns c = search arrays-accepted
@@ -29,5 +29,5 @@ congruences-hold-spec =
     load-requires-2
     load-requires-3
     load-requires-4
-    accepts-requires
+    congruent-requires
     returns)

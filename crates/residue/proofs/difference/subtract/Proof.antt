@@ -1,12 +1,12 @@
 -- `subtract` writes the words of u − v one after another.
 use borrow.Author.Needs.{needs}
-use Rattle.irreducible.proofs.conjugate.subtract.Statement.{statement}
-use Rattle.irreducible.proofs.conjugate.subtract.Tie as tie
+use Rattle.residue.proofs.difference.subtract.Statement.{statement}
+use Rattle.residue.proofs.difference.subtract.Tie as tie
 use Prim.Native.Nat.{_-_, _≤_}
 use mathlib.Core.Path.{_≡_}
 use Rattle.array.proofs.Painted.{painted, painted-none}
 use Rattle.array.proofs.Padded.{holds-word}
-use Rattle.irreducible.proofs.conjugate.Subtraction.{minusWord, minus-turn, minus-done}
+use Rattle.residue.proofs.difference.Subtraction.{minusWord, minus-turn, minus-done}
 
 abbrev Inv-loop : tie.InvT-loop
 Inv-loop p n u v w₀ i₀ w i = (i ≤ n) × (w ≡ painted w₀ (minusWord p u v) i)

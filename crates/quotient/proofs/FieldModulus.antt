@@ -1,8 +1,8 @@
--- The residues modulo T are a field exactly when T has no monic divisor of degree 1 to n − 1. A divisor D of such a degree is itself a residue, not 0; it is 0
+-- Inverses on lists, and: the residues modulo T are a field exactly when T has no monic divisor of degree 1 to n − 1. A divisor D of such a degree is itself a residue, not 0; it is 0
 -- modulo D, so it has no inverse modulo T, for 1 is not 0 modulo D.
 use mathlib.Core.Path.{_≡_, refl, sym, ap, subst, _∙_}
 use mathlib.Core.List.{List, [], _∷_, _++_, append-assoc, head-eq-of-cons-eq, tail-eq-of-cons-eq}
-use Prim.Native.Nat.{ℕ, zero, suc, _+_, _-_, _<_}
+use Prim.Native.Nat.{ℕ, zero, suc, _+_, _-_, _≤_, _<_}
 use native.Mathlib.Omega.{arith}
 use lib.ListN.{length, replicate}
 use Rattle.algebra.specs.Prime.{Prime}
@@ -10,24 +10,15 @@ use Rattle.algebra.specs.Ring.{CommutativeRing}
 use Rattle.algebra.proofs.RingLaws.{zero-mul}
 use Rattle.array.specs.Words.{Words, more}
 use Rattle.array.proofs.Words.{append-words, of-length, to-length, words-length, zeros-words}
-use Rattle.quotient.specs.Divisor.{Same, Divides, HasDivisor, monic}
-use Rattle.quotient.specs.Residue.{Residue, constant}
+use Rattle.quotient.specs.Divisor.{Divides, HasDivisor, monic}
+use Rattle.quotient.specs.Residue.{Residue, constant, HasInverse, Inverses}
 use Rattle.quotient.proofs.Divisor.{reduction-homomorphism}
 use Rattle.quotient.proofs.Field.{one-not-zero}
 use Rattle.quotient.proofs.Operations.{constant-zero, residue-path}
 use Rattle.quotient.proofs.Reduction.{mul-is, one-is, zero-is, reduce, reduce-same, reduce-modulus}
 use Rattle.quotient.proofs.Ring.{residueRing}
 use Rattle.quotient.proofs.Substitution.{Homomorphism}
-use Rattle.quotient.proofs.Units.{nonzero-invertible}
-use Rattle.irreducible.specs.Irreducible.{Inverses}
-
--- zeros at the end change nothing
-zeros-same : (p k : ℕ) (f : List ℕ) → Same p (f ++ replicate k 0) f
-zeros-same p zero [] i = refl
-zeros-same p (suc k) [] zero = refl
-zeros-same p (suc k) [] (suc i) = zeros-same p k [] i
-zeros-same p k (a ∷ f) zero = refl
-zeros-same p k (a ∷ f) (suc i) = zeros-same p k f i
+use Rattle.quotient.proofs.Units.{Invertible, nonzero-invertible, zeros-same}
 
 -- a list with a 1 in it is not 0
 one-among-zeros : (d zs : List ℕ) (n : ℕ) → d ++ 1 ∷ zs ≡ replicate n 0 → ⊥
@@ -35,6 +26,18 @@ one-among-zeros [] zs zero e = let h : suc (length zs) ≡ 0 = ap length e in om
 one-among-zeros [] zs (suc n) e = let h : _≡_ {A = ℕ} 1 0 = head-eq-of-cons-eq e in omega arith
 one-among-zeros (a ∷ d) zs zero e = let h : suc (length (d ++ 1 ∷ zs)) ≡ 0 = ap length e in omega arith
 one-among-zeros (a ∷ d) zs (suc n) e = one-among-zeros d zs n (tail-eq-of-cons-eq e)
+
+-- an inverse on lists and in the ring
+
+module _ {p n : ℕ} {t : List ℕ} (big : 2 ≤ p) (wt : Words p n t) (u : Residue p n) where
+  pub has-inverse : Invertible (residueRing big wt) u → HasInverse p t (u .0)
+  has-inverse (v, e) =
+      (v .0, to-length wt (v .1), sym (mul-is big wt u v) ∙ ap (λ w. w .0) e ∙ one-is big wt ∙ ap (λ k. constant k 1) (sym (words-length wt)))
+
+  pub inverse-of : HasInverse p t (u .0) → Invertible (residueRing big wt) u
+  inverse-of (v, wv, e) =
+      let w : Residue p n = (v, of-length wt wv) in
+      (w, residue-path (mul-is big wt u w ∙ e ∙ ap (λ k. constant k 1) (words-length wt) ∙ sym (one-is big wt)))
 
 module _ {p n : ℕ} {t : List ℕ} (prime : Prime p) (wt : Words p (suc n) t) where
   abbrev K : CommutativeRing (Residue p (suc n))
@@ -64,14 +67,13 @@ module _ {p n : ℕ} {t : List ℕ} (prime : Prime p) (wt : Words p (suc n) t) w
         ap (reduce (prime .0) wd) (sym (append-assoc d (1 ∷ []) (replicate (n - suc m) 0)))
         ∙ reduce-same (prime .0) wd (monic d ++ replicate (n - suc m) 0) (monic d) (zeros-same p (n - suc m) (monic d)) ∙ reduce-modulus (prime .0) wd
 
-    pub divisor-no-unit : Inverses p (suc n) t → ⊥
+    divisor-no-unit : Inverses p (suc n) t → ⊥
     unfolding divisor
     divisor-no-unit inverses =
-        let (v, wv, e) = inverses (divisor .0) (divisor .1) (λ z. one-among-zeros d (replicate (n - suc m) 0) (suc n) (z ∙ constant-zero (suc n))) in
-        let inverse : Residue p (suc n) = (v, of-length wt wv) in
-        let one : K .mul divisor inverse ≡ K .one = residue-path (mul-is (prime .0) wt divisor inverse ∙ e ∙ ap (λ k. constant k 1) (words-length wt) ∙ sym (one-is (prime .0) wt)) in
+        let (v, one) =
+        inverse-of (prime .0) wt divisor (inverses (divisor .0) (divisor .1) (λ z. one-among-zeros d (replicate (n - suc m) 0) (suc n) (z ∙ constant-zero (suc n)))) in
         let same : L .one ≡ L .zero =
-        sym (preserves .one) ∙ ap φ (sym one) ∙ preserves .mul divisor inverse ∙ ap (λ u. L .mul u (φ inverse)) divisor-vanishes ∙ zero-mul L (φ inverse) in
+        sym (preserves .one) ∙ ap φ (sym one) ∙ preserves .mul divisor v ∙ ap (λ u. L .mul u (φ v)) divisor-vanishes ∙ zero-mul L (φ v) in
         one-not-zero m (sym (one-is (prime .0) wd) ∙ ap (λ u. u .0) same ∙ zero-is (prime .0) wd)
 
   pub inverses-irreducible : Inverses p (suc n) t → HasDivisor p t → ⊥
@@ -80,5 +82,4 @@ module _ {p n : ℕ} {t : List ℕ} (prime : Prime p) (wt : Words p (suc n) t) w
 
   pub irreducible-inverses : (HasDivisor p t → ⊥) → Inverses p (suc n) t
   irreducible-inverses irreducible u wu other =
-      let (v, e) = nonzero-invertible prime wt irreducible (u, wu) (λ z. other (ap (λ w. w .0) z ∙ zero-is (prime .0) wt)) in
-      (v .0, to-length wt (v .1), sym (mul-is (prime .0) wt (u, wu) v) ∙ ap (λ w. w .0) e ∙ one-is (prime .0) wt ∙ ap (λ k. constant k 1) (sym (words-length wt)))
+      has-inverse (prime .0) wt (u, wu) (nonzero-invertible prime wt irreducible (u, wu) (λ z. other (ap (λ w. w .0) z ∙ zero-is (prime .0) wt)))

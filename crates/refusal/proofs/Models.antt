@@ -1,13 +1,28 @@
--- To two models, and to any lists of n words, 1 to 4 do not apply; and to what they do not apply are two models.
+-- To a model, to two models, and to any lists of n words, 1 to 4 do not apply; and to what they do not apply are such models.
 use mathlib.Core.Path.{_≡_}
 use mathlib.Core.List.{List, [], _∷_}
 use Prim.Native.Nat.{ℕ}
 use lib.ListN.{length}
 use Rattle.algebra.specs.Lists.{All}
 use Rattle.array.proofs.Words.{words-length}
-use Rattle.refusal.specs.Models.{Models}
+use Rattle.refusal.specs.Models.{Model, Models}
 use Rattle.refusal.proofs.Lists.{words-of, words-below}
 use Rattle.refusal.proofs.Refusal.{Sent}
+
+module _ (p n : ℕ) (t : List ℕ) where
+  pub model-sent : Model p n t → Sent p n (t ∷ []) (t ∷ [])
+  model-sent m =
+      record {
+        prime = m .prime;
+        small = m .small;
+        low = m .degree .0;
+        high = m .degree .1;
+        lengths = (words-length (m .modulus), tt);
+        below = (words-below (m .modulus), tt);
+      }
+
+  pub sent-model : Sent p n (t ∷ []) (t ∷ []) → Model p n t
+  sent-model h = record { prime = h .prime; small = h .small; degree = (h .low, h .high); modulus = words-of p n t (h .lengths .0) (h .below .0) }
 
 module _ (p n : ℕ) (t1 t2 : List ℕ) (xss : List (List ℕ)) where
   pub models-sent : Models p n t1 t2 → All (λ xs. length xs ≡ n) xss → Sent p n (t1 ∷ t2 ∷ xss) (t1 ∷ t2 ∷ [])

@@ -1,11 +1,9 @@
--- The powers x^(p^k) of one element: where x^(p^d) = x, they repeat with period d. In the field of the residues modulo a D of degree d without proper
--- divisors, the period of the residue of X is d: every residue satisfies u^(p^d) = u, and X^(p^k) = X for a 0 < k < d would give u^(p^k) = u for
--- all p^d residues u, which is too many.
+-- In the field of the residues modulo a T of degree n without proper divisors, the period of the residue of X under u ↦ u^p is n: every residue satisfies
+-- u^(p^n) = u, and X^(p^k) = X for a 0 < k < n would give u^(p^k) = u for all p^n residues u, which is too many.
 use mathlib.Core.Path.{_≡_, sym, ap, _∙_}
 use mathlib.Core.List.{List}
-use Prim.Native.Nat.{ℕ, zero, suc, _+_, _-_, _*_, _/_, _%_, _^_, _≤_, _<_}
-use native.Mathlib.Nat.{pow-zero, pow-suc, pow-le-pow-right, one-le-pow, add-zero, mul-zero, le-dest, div-add-mod, mod-lt, pos-of-ne-zero}
-use native.Mathlib.Decide.{ℕ-discrete}
+use Prim.Native.Nat.{ℕ, zero, suc, _+_, _-_, _*_, _^_, _≤_, _<_}
+use native.Mathlib.Nat.{pow-zero, pow-suc, pow-le-pow-right, one-le-pow, le-dest}
 use native.Mathlib.Omega.{arith}
 use lib.ListN.{length}
 use Rattle.algebra.specs.Prime.{Prime}
@@ -32,35 +30,6 @@ power-doubles p k n big le =
     let twice : p ^ n * (2 + r) ≡ p ^ suc n = ap (λ x. p ^ n * x) e ∙ sym (pow-suc p n) in
     let spread : p ^ n * (2 + r) ≡ p ^ n + p ^ n + p ^ n * r = omega arith in
     omega arith
-
-module _ {A : Type 0} (R : CommutativeRing A) (p : ℕ) where
-  -- x^(p^(j + k)) = (x^(p^j))^(p^k)
-  pub power-power : (x : A) (j k : ℕ) → power R x (p ^ (j + k)) ≡ power R (power R x (p ^ j)) (p ^ k)
-  power-power x j zero = ap (λ e. power R x (p ^ e)) (add-zero j) ∙ sym (ap (power R (power R x (p ^ j))) (pow-zero p) ∙ power-one R (power R x (p ^ j)))
-  power-power x j (suc k) =
-      let step : j + suc k ≡ suc (j + k) = omega arith in
-      ap (λ e. power R x (p ^ e)) step ∙ ap (power R x) (pow-suc p (j + k)) ∙ power-mul R x (p ^ (j + k)) p ∙ ap (λ y. power R y p) (power-power x j k)
-      ∙ sym (ap (power R (power R x (p ^ j))) (pow-suc p k) ∙ power-mul R (power R x (p ^ j)) (p ^ k) p)
-
-  module _ (x : A) (d : ℕ) (period : power R x (p ^ d) ≡ x) where
-    pub period-multiple : (k : ℕ) → power R x (p ^ (d * k)) ≡ x
-    period-multiple zero = ap (λ e. power R x (p ^ e)) (mul-zero d) ∙ ap (power R x) (pow-zero p) ∙ power-one R x
-    period-multiple (suc k) =
-        let step : d * suc k ≡ d * k + d = omega arith in
-        ap (λ e. power R x (p ^ e)) step ∙ power-power x (d * k) d ∙ ap (λ y. power R y (p ^ d)) (period-multiple k) ∙ period
-
-    -- a period that no smaller one goes before divides every other
-    pub period-divides : 0 < d → ((k : ℕ) → 0 < k → k < d → power R x (p ^ k) ≡ x → ⊥) → (n : ℕ) → power R x (p ^ n) ≡ x → n % d ≡ 0
-    period-divides pos least n e = by-remainder (ℕ-discrete (n % d) 0)
-      where
-        rest : power R x (p ^ (n % d)) ≡ x
-        rest =
-            ap (λ y. power R y (p ^ (n % d))) (sym (period-multiple (n / d))) ∙ sym (power-power x (d * (n / d)) (n % d))
-            ∙ ap (λ k. power R x (p ^ k)) (div-add-mod n d) ∙ e
-
-        by-remainder : Dec (n % d ≡ 0) → n % d ≡ 0
-        by-remainder (yes h) = h
-        by-remainder (no h) = absurd (least (n % d) (pos-of-ne-zero h) (mod-lt n pos) rest)
 
 module _ {p n : ℕ} {t : List ℕ} (prime : Prime p) (wt : Words p (suc n) t) where
   abbrev K : CommutativeRing (Residue p (suc n))
