@@ -10,8 +10,8 @@ use lib.Seq.{take-length, drop-length}
 use mir.Syntax.{w16}
 use mir.Val.{Fits}
 use Rattle.array.specs.Array.{padded, Holds}
-use Rattle.array.proofs.Painted.{painted, table, painted-is, painted-next, painted-length}
-use Rattle.array.proofs.Padded.{array-fits, painted-array, padded-zeros, take-zeros, holds-word}
+use Rattle.array.proofs.Painted.{painted, table, painted-is, painted-next, painted-length, painted-turn}
+use Rattle.array.proofs.Padded.{array-fits, painted-array, padded-zeros, take-zeros, holds-word, painted-table}
 use Rattle.array.specs.Words.{wordBound}
 
 unfoldable pub entry : List ℕ → ℕ → ℕ
@@ -25,14 +25,10 @@ table-entries (suc n) (a ∷ xs) h = ap (_∷_ a) (table-entries n xs (omega ari
 
 pub copy-turn : (j : ℕ) (xs w w′ : List ℕ) → w′ ≡ painted w (entry xs) j → set w′ j (getD xs j 0) ≡ painted w (entry xs) (j + 1)
 unfolding entry
-copy-turn j xs w w′ e = ap (λ l. set l j (getD xs j 0)) e ∙ painted-next w (entry xs) j
+copy-turn j xs w w′ e = painted-turn (entry xs) j (getD xs j 0) w w′ refl e
 
 pub load-done : (j : ℕ) (xs w : List ℕ) → length xs ≤ 16 → j ≤ length xs → length xs ≤ j → w ≡ painted (replicate 16 0) (entry xs) j → w ≡ padded xs
-load-done j xs w b l m e =
-    let same : j ≡ length xs = omega arith in
-    e ∙ ap (painted (replicate 16 0) (entry xs)) same
-    ∙ painted-array (length xs) (entry xs) (replicate 16 0) b (padded-zeros (length xs) b ∙ ap padded (sym (take-zeros (length xs) b)))
-    ∙ ap padded (table-entries (length xs) xs (Nat.le-refl (length xs)) ∙ take-length xs)
+load-done j xs w b l m e = painted-table (entry xs) (length xs) j w b l m e ∙ ap padded (table-entries (length xs) xs (Nat.le-refl (length xs)) ∙ take-length xs)
 
 -- the whole of w is written over by words of xs
 pub copy-done : (j : ℕ) (xs w w′ : List ℕ) → length w ≤ length xs → j ≤ length w → length w′ ≤ j → w′ ≡ painted w (entry xs) j → w′ ≡ take (length w) xs

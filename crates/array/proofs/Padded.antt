@@ -65,3 +65,10 @@ holds-is {p} {n} e w = subst (Holds p n) (sym e) (holds-padded w)
 
 pub front-is : {p n : ℕ} {u xs : List ℕ} → xs ≡ padded u → Words p n u → take n xs ≡ u
 front-is {p} {n} {u} e w = ap (take n) e ∙ take-padded n u (words-length w)
+
+-- the end of a loop that writes n words into an array of zeros
+pub painted-table : (f : ℕ → ℕ) (n i : ℕ) (w : List ℕ) → n ≤ 16 → i ≤ n → n ≤ i → w ≡ painted (replicate 16 0) f i → w ≡ padded (table f n)
+painted-table f n i w short l l′ e =
+    let same : i ≡ n = omega arith in
+    e ∙ ap (painted (replicate 16 0) f) same
+    ∙ painted-array n f (replicate 16 0) short (padded-zeros n short ∙ ap padded (sym (take-zeros n short)))

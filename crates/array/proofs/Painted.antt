@@ -2,7 +2,7 @@
 --   painted xs f k   xs with f 0, …, f (k − 1) in place of its first k entries
 --   table f n        the list of f 0, …, f (n − 1)
 -- A loop that writes entry j in its turn j has the invariant `w ≡ painted w₀ f j`; `painted-is` says what has become of the list at its end.
-use mathlib.Core.Path.{_≡_, refl, sym, ap, _∙_}
+use mathlib.Core.Path.{_≡_, refl, sym, ap, ap₂, _∙_}
 use mathlib.Core.List.{List, [], _∷_, _++_}
 use Prim.Native.Nat.{ℕ, zero, suc, _+_, _≤_}
 use native.Mathlib.Numerals.{add-one}
@@ -25,6 +25,10 @@ painted-none xs f = refl
 pub painted-next : (xs : List ℕ) (f : ℕ → ℕ) (k : ℕ) → set (painted xs f k) k (f k) ≡ painted xs f (k + 1)
 unfolding painted
 painted-next xs f k = rw (add-one k)
+
+-- a turn that writes r = f k
+pub painted-turn : (f : ℕ → ℕ) (k r : ℕ) (xs w : List ℕ) → r ≡ f k → w ≡ painted xs f k → set w k r ≡ painted xs f (k + 1)
+painted-turn f k r xs w g e = ap₂ (λ l a. set l k a) e g ∙ painted-next xs f k
 
 pub painted-length : (xs : List ℕ) (f : ℕ → ℕ) (k : ℕ) → length (painted xs f k) ≡ length xs
 unfolding painted

@@ -17,8 +17,8 @@ use Rattle.quotient.specs.Residue.{scale, constant}
 use Rattle.quotient.proofs.Operations.{constant-length}
 use Rattle.array.proofs.Words.{words-length}
 use Rattle.array.specs.Array.{padded, Holds}
-use Rattle.array.proofs.Padded.{holds-word, array-fits, padded-zeros, take-zeros, painted-array}
-use Rattle.array.proofs.Painted.{painted, table, painted-next}
+use Rattle.array.proofs.Padded.{holds-word, array-fits, painted-table}
+use Rattle.array.proofs.Painted.{painted, table, painted-turn}
 use Rattle.galois.specs.Eigenvector.{firstNonZero}
 use Rattle.algebra.specs.Search.{Decides}
 use Rattle.galois.proofs.FirstNonZero.{firstNonZero-zero, firstNonZero-nonzero, firstNonZero-nil, firstNonZero-positive, firstNonZero-below}
@@ -37,14 +37,10 @@ word-small p n i u small h l = omega (arith, holds-word h i l)
 
 pub scale-turn : (p c i r : ℕ) (u w w′ : List ℕ) → r ≡ c * getD u i 0 % p → w′ ≡ painted w (scaledWord p c u) i → set w′ i r ≡ painted w (scaledWord p c u) (i + 1)
 unfolding scaledWord
-scale-turn p c i r u w w′ f e = ap₂ (λ l a. set l i a) e f ∙ painted-next w (scaledWord p c u) i
+scale-turn p c i r u w w′ f e = painted-turn (scaledWord p c u) i r w w′ f e
 
 pub scale-done : (p c n i : ℕ) (u w : List ℕ) → n ≤ 16 → Holds p n u → i ≤ n → n ≤ i → w ≡ painted (replicate 16 0) (scaledWord p c u) i → w ≡ padded (scale p c (take n u))
-scale-done p c n i u w short h l l′ e =
-    let same : i ≡ n = omega arith in
-    e ∙ ap (painted (replicate 16 0) (scaledWord p c u)) same
-    ∙ painted-array n (scaledWord p c u) (replicate 16 0) short (padded-zeros n short ∙ ap padded (sym (take-zeros n short)))
-    ∙ ap padded (table-scaled p c n u (array-fits n u short (h .zeros)))
+scale-done p c n i u w short h l l′ e = painted-table (scaledWord p c u) n i w short l l′ e ∙ ap padded (table-scaled p c n u (array-fits n u short (h .zeros)))
 
 pub record ZerosBefore (n : ℕ) (u : List ℕ) (i : ℕ) : Type 0 where
   pub to : i ≤ n

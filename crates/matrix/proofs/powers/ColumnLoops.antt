@@ -10,7 +10,8 @@ use lib.Seq.{getD-set-same, getD-set-other}
 use Rattle.array.specs.Array.{padded, entry}
 use Rattle.matrix.specs.Matrix.{Placed, column}
 use Rattle.array.proofs.Painted.{painted}
-use Rattle.matrix.proofs.Filled.{painted-turn, painted-done}
+use Rattle.array.proofs.Painted.{painted-turn}
+use Rattle.matrix.proofs.Filled.{painted-done}
 
 -- writing a column
 

@@ -8,8 +8,8 @@ use native.Mathlib.Omega.{arith}
 use lib.ListN.{length, getD, take, set, replicate}
 use Rattle.array.specs.Array.{padded, Holds}
 use Rattle.array.specs.Words.{Words, more}
-use Rattle.array.proofs.Padded.{array-fits, padded-zeros, take-zeros, painted-array}
-use Rattle.array.proofs.Painted.{painted, table, painted-next}
+use Rattle.array.proofs.Padded.{array-fits, painted-table}
+use Rattle.array.proofs.Painted.{painted, table, painted-turn}
 use Rattle.quotient.specs.Residue.{sum, scale}
 
 unfoldable pub minusWord : ℕ → List ℕ → List ℕ → ℕ → ℕ
@@ -43,12 +43,10 @@ table-minus p (suc n) (a ∷ u) (b ∷ v) hu hv (more h w) = ap₂ _∷_ (minus-
 
 pub minus-turn : (p i r : ℕ) (u v w w′ : List ℕ) → r ≡ (getD u i 0 + (p - getD v i 0)) % p → w′ ≡ painted w (minusWord p u v) i → set w′ i r ≡ painted w (minusWord p u v) (i + 1)
 unfolding minusWord
-minus-turn p i r u v w w′ f e = ap₂ (λ l a. set l i a) e f ∙ painted-next w (minusWord p u v) i
+minus-turn p i r u v w w′ f e = painted-turn (minusWord p u v) i r w w′ f e
 
 pub minus-done : (p n i : ℕ) (u v w : List ℕ) → n ≤ 16 → Holds p n u → Holds p n v → i ≤ n → n ≤ i → w ≡ painted (replicate 16 0) (minusWord p u v) i
     → w ≡ padded (sum p (take n u) (scale p (p - 1) (take n v)))
 minus-done p n i u v w short hu hv l l′ e =
-    let same : i ≡ n = omega arith in
-    e ∙ ap (painted (replicate 16 0) (minusWord p u v)) same
-    ∙ painted-array n (minusWord p u v) (replicate 16 0) short (padded-zeros n short ∙ ap padded (sym (take-zeros n short)))
+    painted-table (minusWord p u v) n i w short l l′ e
     ∙ ap padded (table-minus p n u v (array-fits n u short (hu .zeros)) (array-fits n v short (hv .zeros)) (hv .words))
