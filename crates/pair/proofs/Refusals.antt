@@ -60,9 +60,9 @@ module _ (p n number : ℕ) (t1 t2 s r : List ℕ) (e : number ≡ refuseSent p 
     pub check-given : Given p n t1 t2 s r
     check-given = given p n t1 t2 s r sent
 
-    pub check-judged : (k : ℕ) → k ≡ refusePair p t1 t2 s r → k ≡ checkNumber p n t1 t2 s r
+    pub check-pair : (k : ℕ) → k ≡ refusePair p t1 t2 s r → k ≡ checkNumber p n t1 t2 s r
     unfolding checkNumberOr
-    check-judged k f = f ∙ sym (given-sent p n (t1 ∷ t2 ∷ s ∷ r ∷ []) (t1 ∷ t2 ∷ s ∷ r ∷ []) _ sent)
+    check-pair k f = f ∙ sym (given-sent p n (t1 ∷ t2 ∷ s ∷ r ∷ []) (t1 ∷ t2 ∷ s ∷ r ∷ []) _ sent)
 
 -- after 1 to 4: the tests of the moduli and of the congruences
 
@@ -74,23 +74,23 @@ module _ (p n : ℕ) (t1 t2 s r : List ℕ) (g : Given p n t1 t2 s r) where
   model-2 = record { prime = g .models .prime; small = g .models .small; degree = g .models .degree; modulus = g .models .modulus2 }
 
   module _ (a : Bool) (e : a ≡ not (hasDivisor p t1)) where
-    pub judge-six : not a ≡ true → 6 ≡ refusePair p t1 t2 s r
-    judge-six f = rw (not-false (hasDivisor p t1) (sym e ∙ not-true a f))
+    pub pair-six : not a ≡ true → 6 ≡ refusePair p t1 t2 s r
+    pair-six f = rw (not-false (hasDivisor p t1) (sym e ∙ not-true a f))
 
     module _ (f : not a ≡ false) where
       first-none : hasDivisor p t1 ≡ false
       first-none = not-true (hasDivisor p t1) (sym e ∙ not-false a f)
 
       module _ (b : Bool) (h : b ≡ congruencesHold p t1 t2 s r) where
-        pub judge-accepted : b ≡ true → 0 ≡ refusePair p t1 t2 s r
-        judge-accepted k = rw (first-none, second-none p n t1 t2 s r g (sym h ∙ k) first-none, ← h, k)
+        pub pair-accepted : b ≡ true → 0 ≡ refusePair p t1 t2 s r
+        pair-accepted k = rw (first-none, second-none p n t1 t2 s r g (sym h ∙ k) first-none, ← h, k)
 
         module _ (c : Bool) (l : c ≡ not (hasDivisor p t2)) (k : b ≡ false) where
-          pub judge-eight : c ≡ true → 8 ≡ refusePair p t1 t2 s r
-          judge-eight m = rw (first-none, not-true (hasDivisor p t2) (sym l ∙ m), ← h, k)
+          pub pair-eight : c ≡ true → 8 ≡ refusePair p t1 t2 s r
+          pair-eight m = rw (first-none, not-true (hasDivisor p t2) (sym l ∙ m), ← h, k)
 
-          pub judge-seven : c ≡ false → 7 ≡ refusePair p t1 t2 s r
-          judge-seven m = rw (first-none, not-false (hasDivisor p t2) (sym l ∙ m))
+          pub pair-seven : c ≡ false → 7 ≡ refusePair p t1 t2 s r
+          pair-seven m = rw (first-none, not-false (hasDivisor p t2) (sym l ∙ m))
 
 -- an output list of the wrong length: 1 and 2 stay, and 3 takes the place of what comes after them
 

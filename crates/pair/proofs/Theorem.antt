@@ -4,7 +4,7 @@ use mathlib.Core.Bool.{false, not}
 use mathlib.Core.List.{[], _∷_}
 use Rattle.quotient.specs.Divisor.{HasDivisor}
 use Rattle.quotient.specs.DivisorTest.{hasDivisor}
-use Rattle.quotient.proofs.Decision.{irreducible-test, test-irreducible}
+use Rattle.quotient.proofs.Decision.{has-divisor?, irreducible-test, test-irreducible}
 use Rattle.refusal.proofs.Refusal.{refuse-none, sent-given, given-sent}
 use Rattle.pair.specs.Pair.{Congruences, congruencesHold, refusePair, checkNumberOr}
 use Rattle.pair.specs.Theorem.{Given, CheckerTheorem, CongruencesTheorem, DivisorsTogether, DegreeOne}
@@ -39,9 +39,15 @@ congruences-theorem p n t1 t2 s r big some w1 w2 ws wr c = isomorphisms-of-congr
 pub divisors-together : DivisorsTogether
 divisors-together p n t1 t2 s r g c =
     let iso = isomorphisms-given p n t1 t2 s r g c in (
-      irreducible-forth (g .models .prime) (g .models .degree .0) (g .models .modulus1) (g .models .modulus2) (g .words-s) (g .words-r) iso,
-      irreducible-back (g .models .prime) (g .models .degree .0) (g .models .modulus1) (g .models .modulus2) (g .words-s) (g .words-r) iso,
+      λ h. decided (has-divisor? (g .models .prime .0) (g .models .modulus2))
+          (λ none. irreducible-back (g .models .prime) (g .models .degree .0) (g .models .modulus1) (g .models .modulus2) (g .words-s) (g .words-r) iso none h),
+      λ h. decided (has-divisor? (g .models .prime .0) (g .models .modulus1))
+          (λ none. irreducible-forth (g .models .prime) (g .models .degree .0) (g .models .modulus1) (g .models .modulus2) (g .words-s) (g .words-r) iso none h),
     )
+  where
+    decided : {A : Type 0} → Dec A → ((A → ⊥) → ⊥) → A
+    decided (yes a) h = a
+    decided (no none) h = absurd (h none)
 
 pub degree-one : DegreeOne
 degree-one p a b c d big ha hb hc hd = (x-is-constant big ha, accepted-degree-one big ha hb hc hd)

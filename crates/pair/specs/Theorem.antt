@@ -53,7 +53,7 @@ CongruencesTheorem =
 
 abbrev pub DivisorsTogether : Type 0
 DivisorsTogether =
-    (p n : ℕ) (t1 t2 s r : List ℕ) → Given p n t1 t2 s r → Congruences p t1 t2 s r → (HasDivisor p t1 → ⊥) ↔ (HasDivisor p t2 → ⊥)
+    (p n : ℕ) (t1 t2 s r : List ℕ) → Given p n t1 t2 s r → Congruences p t1 t2 s r → HasDivisor p t1 ↔ HasDivisor p t2
 
 abbrev pub DegreeOne : Type 0
 DegreeOne =

@@ -50,7 +50,7 @@ pub fn congruences_hold(p: u32, n: u32, t1: &[Word], t2: &[Word], s: &[Word], r:
 
 // 6, 7, 8 or 0, for lists to which 1 to 4 do not apply. Where the congruences hold, T2 has a proper divisor only if T1 has one: T2 is tested only to
 // tell 7 from 8.
-fn judge(p: u32, n: u32, t1: &[Word], t2: &[Word], s: &[Word], r: &[Word]) -> u32
+fn refuse_pair(p: u32, n: u32, t1: &[Word], t2: &[Word], s: &[Word], r: &[Word]) -> u32
     requires { ⌜ Given p n (now t1) (now t2) (now s) (now r) ⌝ }
     ensures { λ number. ⌜ number ≡ refusePair p (now (t1 .entry)) (now (t2 .entry)) (now (s .entry)) (now (r .entry)) ⌝ }
 {
@@ -72,7 +72,7 @@ pub fn check(p: u32, n: u32, t1: &[Word], t2: &[Word], s: &[Word], r: &[Word]) -
     if number != 0 {
         return number;
     }
-    judge(p, n, t1, t2, s, r)
+    refuse_pair(p, n, t1, t2, s, r)
 }
 
 // The same for a call that also writes a list: 3 also where that list has not its exact length.

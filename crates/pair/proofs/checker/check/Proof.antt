@@ -2,7 +2,7 @@
 use borrow.Author.Needs.{needs}
 use Rattle.pair.proofs.checker.check.Statement.{statement}
 use Rattle.pair.proofs.checker.check.Tie as tie
-use Rattle.pair.proofs.Refusals.{check-refused, check-given, check-judged}
+use Rattle.pair.proofs.Refusals.{check-refused, check-given, check-pair}
 
 refusal-requires : tie.Need-refusal-requires
 refusal-requires c κs = search needs
@@ -10,11 +10,11 @@ refusal-requires c κs = search needs
 returns : tie.Need-returns
 returns c = search check-refused
 
-judge-requires : tie.Need-judge-requires
-judge-requires c κs = search check-given
+refuse-pair-requires : tie.Need-refuse-pair-requires
+refuse-pair-requires c κs = search check-given
 
 returns-2 : tie.Need-returns-2
-returns-2 c = search check-judged
+returns-2 c = search check-pair
 
 pub check-spec : {M : Type 1} → statement M
-check-spec = tie.close (tie.spec refusal-requires returns judge-requires returns-2)
+check-spec = tie.close (tie.spec refusal-requires returns refuse-pair-requires returns-2)
