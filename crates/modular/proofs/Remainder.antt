@@ -13,8 +13,8 @@ use Rattle.algebra.proofs.Modulo.{mul-mod-mod, mod-mul-mod}
 pub remainder-unique : (n r q p : ℕ) → n ≡ r + q * p → r < p → r ≡ n % p
 remainder-unique n r q p e h = sym (ap (λ x. x % p) e ∙ add-mul-mod-self-right r q p ∙ mod-eq-of-lt h)
 
-pub add-below : (p a b : ℕ) → a + b < p → a + b ≡ (a + b) % p
-add-below p a b h = remainder-unique (a + b) (a + b) 0 p (omega arith) h
+pub below-same : (p x : ℕ) → x < p → x ≡ x % p
+below-same p x h = sym (mod-eq-of-lt h)
 
 pub add-wrapped : (p a b : ℕ) → a < p → b < p → p ≤ a + b → a + b - p ≡ (a + b) % p
 add-wrapped p a b ha hb h = remainder-unique (a + b) (a + b - p) 1 p (omega arith) (omega arith)

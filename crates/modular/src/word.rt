@@ -22,6 +22,14 @@ pub fn sub(p: u64, a: u64, b: u64) -> u64
     if b <= a { a - b } else { a + (p - b) }
 }
 
+// x modulo p, for a number x of any size. One that is below p is not divided.
+pub fn remainder(p: u64, x: u64) -> u64
+    requires { ⌜ 0 < p ⌝ }
+    ensures { λ r. ⌜ (r ≡ x % p) × (r < p) ⌝ }
+{
+    if x < p { x } else { x % p }
+}
+
 // a·b modulo p.
 pub fn mul(p: u64, a: u64, b: u64) -> u64
     requires { ⌜ (0 < p) × (a ≤ 1048576) × (b ≤ 1048576) ⌝ }

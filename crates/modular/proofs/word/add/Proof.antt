@@ -1,7 +1,7 @@
 -- `word::add` returns the sum or the sum less p, whichever is below p.
 use native.Mathlib.Omega.{arith}
 use borrow.Author.Needs.{needs}
-use Rattle.modular.proofs.Remainder.{add-below, add-wrapped}
+use Rattle.modular.proofs.Remainder.{below-same, add-wrapped}
 use Rattle.modular.proofs.word.add.Statement.{statement}
 use Rattle.modular.proofs.word.add.Tie as tie
 
@@ -9,7 +9,7 @@ add-sum : tie.Need-add-sum
 add-sum c = search needs
 
 returns : tie.Need-returns
-returns c = (search add-below, search needs)
+returns c = (search below-same, search needs)
 
 returns-2 : tie.Need-returns-2
 returns-2 c = (search add-wrapped, omega arith)
