@@ -6,6 +6,7 @@ ghost use Rattle.modular.specs.Barrett.{Reduces};
 ghost use Rattle.linear.specs.Elimination.{Reduced, RowStep};
 use modular::barrett::Barrett;
 use modular::barrett::times;
+use modular::word::remainder;
 
 // e + f·g modulo p.
 fn plus_product(d: Barrett, e: u64, f: u64, g: u64) -> u64
@@ -41,18 +42,20 @@ pub fn add_multiple(
     b[x] = plus_product(d, b[x], f, b[y]);
 }
 
-// Row c times the inverse of its word in column c.
+// Row c times a number whose product with the pivot, its word in column c, is 1 modulo p. Nothing else is known of that number, so it is reduced before the
+// columns.
 pub fn scale(d: Barrett, n: usize, c: usize, inverse: u64, m: &mut [u64; 256], b: &mut [u64; 16])
     requires { ⌜ Reduces d ⌝ }
-    requires { ⌜ (n ≤ 16) × (c < n) × ((inverse * entry (now m) c c) % d .p ≡ 1) × (inverse < d .p) ⌝ }
+    requires { ⌜ (n ≤ 16) × (c < n) × ((inverse * entry (now m) c c) % d .p ≡ 1) ⌝ }
     requires { ⌜ Reduced (d .p) n c (now m) (now b) ⌝ }
     ensures { λ _. ⌜ RowStep (d .p) n c c 1 (now (m .entry)) (now (b .entry)) (now (m .exit)) (now (b .exit)) ⌝ }
 {
+    let a = remainder(d.p, inverse);
     let mut j = c;
     while j < n {
         let k = 16 * c + j;
-        m[k] = plus_product(d, 0, inverse, m[k]);
+        m[k] = plus_product(d, 0, a, m[k]);
         j += 1;
     }
-    b[c] = plus_product(d, 0, inverse, b[c]);
+    b[c] = plus_product(d, 0, a, b[c]);
 }

@@ -1,13 +1,14 @@
 -- The loops of the two row operations: what they read is below p, so that a word plus a product can be reduced; a turn writes one column more, and at
 -- the end a row operation is done.
-use mathlib.Core.Path.{_≡_, ap, ap₂, subst, _∙_}
+use mathlib.Core.Path.{_≡_, refl, ap, ap₂, subst, _∙_}
 use mathlib.Core.List.{List}
 use Prim.Native.Nat.{ℕ, _+_, _*_, _%_, _^_, _≤_, _<_}
-use native.Mathlib.Nat.{mul-le-mul, mul-le-mul-left, mul-le-mul-right}
+use native.Mathlib.Nat.{mod-mod, mul-le-mul, mul-le-mul-left, mul-le-mul-right}
 use native.Mathlib.Omega.{arith}
 use lib.ListN.{getD, set}
 use mir.Syntax.{w64}
 use mir.Val.{Fits}
+use Rattle.linear.proofs.Congruence.{product-congruent}
 use Rattle.linear.proofs.row.Write.{Written, written-turn, written-next}
 use Rattle.array.specs.Array.{entry}
 use Rattle.linear.specs.Elimination.{Reduced, RowStep}
@@ -59,8 +60,12 @@ scaled-turn p a n c k w m m' W small hc hk e =
     let same = written-next (scaled p a m c) c c k m m' W (omega arith) in
     written-turn (scaled p a m c) c c k w m m' W (omega arith) (e ∙ ap (λ s. (0 + a * s) % p) (same c) ∙ ap (λ s. s % p) (omega arith))
 
-pub scaled-end : (p a n c k w : ℕ) (m b m' : List ℕ) → 2 ≤ p → n ≤ 16 → c < n → (a * entry m c c) % p ≡ 1 → Reduced p n c m b
+-- The factor a is the number i that was handed over, modulo p, so that it has the same product with the pivot e.
+factor-product : (p i a e : ℕ) → a ≡ i % p → (i * e) % p ≡ 1 → (a * e) % p ≡ 1
+factor-product p i a e h one = product-congruent p a i e e (ap (λ x. x % p) h ∙ mod-mod i p) refl ∙ one
+
+pub scaled-end : (p i a n c k w : ℕ) (m b m' : List ℕ) → 2 ≤ p → n ≤ 16 → c < n → (i * entry m c c) % p ≡ 1 → a ≡ i % p → Reduced p n c m b
     → k ≤ n → n ≤ k → Written (scaled p a m c) c c k m m' → w ≡ (0 + a * getD b c 0) % p → RowStep p n c c 1 m b m' (set b c w)
-scaled-end p a n c k w m b m' big small column inverse R l g W e =
+scaled-end p i a n c k w m b m' big small column one factor R l g W e =
     let W' : Written (scaled p a m c) c c n m m' = subst (λ q. Written (scaled p a m c) c c q m m') (omega arith) W in
-    scaled-step p a n c w m b m' W' (omega arith) small column inverse R e
+    scaled-step p a n c w m b m' W' (omega arith) small column (factor-product p i a (entry m c c) factor one) R e

@@ -23,7 +23,7 @@ inverse-requires : tie.Need-inverse-requires
 inverse-requires c κs = (c .before .before .before .before .pre .0, (search needs, search needs, search pivot-below))
 
 scale-requires : tie.Need-scale-requires
-scale-requires c κs = (search needs, ((search needs, search needs, search pivot-inverse, search needs), search needs))
+scale-requires c κs = (search needs, ((search needs, search needs, search pivot-inverse), search needs))
 
 clear-requires : tie.Need-clear-requires
 clear-requires c κs = search needs

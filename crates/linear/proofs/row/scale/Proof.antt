@@ -1,6 +1,8 @@
--- `scale` gives a row operation. The loop's invariant: the columns from c to j − 1 of row c are written, and the rest is as it was.
+-- `scale` gives a row operation. The loop's invariant: the factor is the number handed over, modulo p; the columns from c to j − 1 of row c are written, and
+-- the rest is as it was. Of that number only its product with the pivot is used.
 use borrow.Author.Needs.{needs}
-use Prim.Native.Nat.{_-_, _≤_}
+use mathlib.Core.Path.{_≡_}
+use Prim.Native.Nat.{_-_, _%_, _≤_, _<_}
 use Rattle.linear.proofs.row.Write.{Written, written-start}
 use Rattle.linear.proofs.row.RowStep.{scaled}
 use Rattle.linear.proofs.row.RowLoop.{scaled-turn, scaled-end, next-below, right-below}
@@ -8,13 +10,16 @@ use Rattle.linear.proofs.row.scale.Statement.{statement}
 use Rattle.linear.proofs.row.scale.Tie as tie
 
 abbrev Inv-loop : tie.InvT-loop
-Inv-loop d n c inverse m₀ b j₀ m j = (j ≤ n) × Written (scaled (d .p) inverse m₀ c) c c j m₀ m
+Inv-loop d n c inverse m₀ b a j₀ m j = (j ≤ n) × (a ≡ inverse % d .p) × (a < d .p) × Written (scaled (d .p) a m₀ c) c c j m₀ m
 
 abbrev μ-loop : tie.MeasureT-loop
-μ-loop d n c inverse m₀ b j₀ m j = n - j
+μ-loop d n c inverse m₀ b a j₀ m j = n - j
+
+remainder-requires : tie.Need-remainder-requires Inv-loop μ-loop
+remainder-requires c κs = search needs
 
 loop-holds : tie.Need-loop-holds Inv-loop μ-loop
-loop-holds c = (search needs, search written-start)
+loop-holds c = (search needs, search needs, search needs, search written-start)
 
 mul-k : tie.Need-mul-k Inv-loop μ-loop
 mul-k c = search needs
@@ -44,7 +49,7 @@ loop-less : tie.Need-loop-less Inv-loop μ-loop
 loop-less c = search needs
 
 loop-again : tie.Need-loop-again Inv-loop μ-loop
-loop-again c = (search needs, search scaled-turn)
+loop-again c = (search needs, search needs, search needs, search scaled-turn)
 
 mul-plus-product-2 : tie.Need-mul-plus-product-2 Inv-loop μ-loop
 mul-plus-product-2 c = search needs
@@ -70,6 +75,7 @@ scale-spec =
     (tie.spec
     Inv-loop
     μ-loop
+    remainder-requires
     loop-holds
     mul-k
     add-k
