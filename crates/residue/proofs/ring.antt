@@ -1,6 +1,5 @@
 -- The laws on which the proofs of `ring` rest.
 mod ReduceLoop
-mod ProductLoop
 mod TimesX
 mod HornerLoop
 mod PowerOfX

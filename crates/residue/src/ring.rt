@@ -1,74 +1,33 @@
 // The ring of residues modulo T, on arrays of 16 words: n words below p, and zeros after them. The functions that reduce words take p with its
 // reciprocal; the calls for other crates work it out once.
+use crate::product::multiply_times_x;
 use modular::barrett::Barrett;
 use modular::barrett::times;
 use modular::word::add;
 ghost use mathlib.Core.Path.{_≡_};
 ghost use Prim.Native.Nat.{_+_, _-_, _*_, _/_, _%_, _^_, _≤_, _<_};
-ghost use mathlib.Core.List.{_∷_};
-ghost use lib.ListN.{length, getD, take, replicate};
+ghost use lib.ListN.{getD, take, replicate};
 ghost use Rattle.quotient.specs.Residue.{timesX, product as productOf, power as powerOf, residueOfX, substitute as substituteOf};
 ghost use Rattle.array.specs.Array.{padded, Holds};
 ghost use Rattle.modular.specs.Barrett.{Reduces};
 ghost use Rattle.residue.specs.Delayed.{reduced, Delayed, Stepped};
 
-// The word below the top word, which the next step moves to the top; 0 in degree 1.
-fn below_top(n: usize, w: &[u64; 16]) -> u64
-    requires { ⌜ (1 ≤ n) × (n ≤ 16) × (length (now w) ≡ 16) ⌝ }
-    ensures { λ r. ⌜ r ≡ getD (0 ∷ now (w .entry)) (n - 1) 0 ⌝ }
-{
-    if n == 1 {
-        return 0;
-    }
-    w[n - 2]
-}
-
-// One step of Horner's rule: w becomes X·w + c·v. Its top word goes out as q·t, where q is the opposite of the top word modulo p; no other
-// word is reduced. The new top word is worked out before the others and handed back, because the next step waits for it alone.
-fn step(p: u64, n: usize, t: &[u64; 16], c: u64, v: &[u64; 16], q: u64, w: &mut [u64; 16]) -> u64
-    requires { ⌜ (2 ≤ p) × (p ≤ 2 ^ 20) × (1 ≤ n) × (n ≤ 16) × (c < p) ⌝ }
-    requires { ⌜ Holds p n (now t) × Holds p n (now v) ⌝ }
+// A step of Horner's rule by itself: w becomes X·w. Its top word goes out as q·t, where q is the opposite of the top word modulo p; no other word is reduced.
+fn step(p: u64, n: usize, t: &[u64; 16], q: u64, w: &mut [u64; 16])
+    requires { ⌜ (2 ≤ p) × (p ≤ 2 ^ 20) × (1 ≤ n) × (n ≤ 16) ⌝ }
+    requires { ⌜ Holds p n (now t) ⌝ }
     requires { ⌜ (q ≤ 2 * p) × ((q + getD (now w) (n - 1) 0) % p ≡ 0) ⌝ }
     requires { ⌜ Delayed p n 16 (reduced p (take n (now w))) (now w) ⌝ }
-    ensures { λ _. ⌜ Stepped p n (take n (now (t .entry))) c (take n (now (v .entry))) (now (w .entry)) (now (w .exit)) ⌝ }
-    ensures { λ top. ⌜ top ≡ getD (now (w .exit)) (n - 1) 0 ⌝ }
+    ensures { λ _. ⌜ Stepped p n (take n (now (t .entry))) 0 (take n (now (t .entry))) (now (w .entry)) (now (w .exit)) ⌝ }
 {
-    let top = below_top(n, w) + times(q, t[n - 1]) + times(c, v[n - 1]);
     let mut carry = 0;
     let mut j = 0;
     while j < n {
         let x = w[j];
-        w[j] = carry + times(q, t[j]) + times(c, v[j]);
+        w[j] = carry + times(q, t[j]);
         carry = x;
         j += 1;
     }
-    top
-}
-
-// u·v modulo T into w, which is 0, by Horner's rule in u; the words of w are not reduced. Handed back is the opposite of the top word, for a
-// further step.
-fn accumulate(
-    d: Barrett,
-    n: usize,
-    t: &[u64; 16],
-    u: &[u64; 16],
-    v: &[u64; 16],
-    w: &mut [u64; 16],
-) -> u64
-    requires { ⌜ Reduces d × (1 ≤ n) × (n ≤ 16) ⌝ }
-    requires { ⌜ Holds (d .p) n (now t) × Holds (d .p) n (now u) × Holds (d .p) n (now v) ⌝ }
-    requires { ⌜ now w ≡ replicate 16 0 ⌝ }
-    ensures { λ _. ⌜ Delayed (d .p) n n (productOf (d .p) (take n (now (t .entry))) (take n (now (u .entry))) (take n (now (v .entry)))) (now (w .exit)) ⌝ }
-    ensures { λ q. ⌜ (q ≤ 2 * d .p) × ((q + getD (now (w .exit)) (n - 1) 0) % d .p ≡ 0) ⌝ }
-{
-    let mut q = 0;
-    let mut i = n;
-    while i > 0 {
-        i -= 1;
-        let top = step(d.p, n, t, u[i], v, q, w);
-        q = d.opposite(top);
-    }
-    q
 }
 
 // Takes each word of w modulo p.
@@ -91,7 +50,7 @@ pub fn times_x(d: Barrett, n: usize, t: &[u64; 16], w: &mut [u64; 16])
     ensures { λ _. ⌜ now (w .exit) ≡ padded (timesX (d .p) (take n (now (t .entry))) (take n (now (w .entry)))) ⌝ }
 {
     let q = d.p - w[n - 1];
-    step(d.p, n, t, 0, t, q, w);
+    step(d.p, n, t, q, w);
     reduce(d, n, w);
 }
 
@@ -109,8 +68,7 @@ fn multiply_into(
     requires { ⌜ now w ≡ replicate 16 0 ⌝ }
     ensures { λ _. ⌜ now (w .exit) ≡ padded (productOf (d .p) (take n (now (t .entry))) (take n (now (u .entry))) (take n (now (v .entry)))) ⌝ }
 {
-    accumulate(d, n, t, u, v, w);
-    reduce(d, n, w);
+    multiply_times_x(d, n, t, u, v, false, w);
 }
 
 // u·v modulo T.
@@ -203,18 +161,18 @@ pub fn power(p: u64, n: usize, t: &[u64; 16], u: &[u64; 16], e: u64) -> [u64; 16
     w
 }
 
-// X^e modulo T into w, which is 0, from X^(e / 2): its square, and X times that where e is odd. The words of w are not reduced.
+// X^e modulo T into w, which is 0, from X^(e / 2): its square, and X times that where e is odd.
 fn raise(d: Barrett, n: usize, t: &[u64; 16], half: &[u64; 16], e: u64, w: &mut [u64; 16])
     requires { ⌜ Reduces d × (1 ≤ n) × (n ≤ 16) ⌝ }
     requires { ⌜ Holds (d .p) n (now t) × (now half ≡ padded (powerOf (d .p) (take n (now t)) (residueOfX (d .p) (take n (now t))) (e / 2))) ⌝ }
     requires { ⌜ now w ≡ replicate 16 0 ⌝ }
-    ensures { λ _. ⌜ Delayed (d .p) n 17 (powerOf (d .p) (take n (now (t .entry))) (residueOfX (d .p) (take n (now (t .entry)))) e) (now (w .exit)) ⌝ }
+    ensures { λ _. ⌜ now (w .exit) ≡ padded (powerOf (d .p) (take n (now (t .entry))) (residueOfX (d .p) (take n (now (t .entry)))) e) ⌝ }
 {
-    let q = accumulate(d, n, t, half, half, w);
     if e % 2 == 0 {
+        multiply_times_x(d, n, t, half, half, false, w);
         return;
     }
-    step(d.p, n, t, 0, half, q, w);
+    multiply_times_x(d, n, t, half, half, true, w);
 }
 
 // X^e modulo T into w, which is 0. An exponent below n needs no product.
@@ -231,7 +189,6 @@ fn power_of_x_by_halving(d: Barrett, n: usize, t: &[u64; 16], e: u64, w: &mut [u
     let mut half = [0; 16];
     power_of_x_by_halving(d, n, t, e / 2, &mut half);
     raise(d, n, t, &half, e, w);
-    reduce(d, n, w);
 }
 
 // X^p modulo T.

@@ -1,6 +1,6 @@
 -- The powers of X on arrays. Below X^n they are unit lists. Any other comes from the square of the power to half the exponent, and one more
 -- multiplication by X where the exponent is odd.
-use mathlib.Core.Path.{_≡_, sym, ap, ap₂, subst, _∙_}
+use mathlib.Core.Path.{_≡_, sym, ap, ap₂, _∙_}
 use mathlib.Core.List.{List, [], _∷_, _++_}
 use Prim.Native.Nat.{ℕ, zero, suc, _+_, _-_, _/_, _%_, _≤_, _<_}
 use native.Mathlib.Omega.{arith}
@@ -9,15 +9,12 @@ use lib.Seq.{set-append-left}
 use Rattle.array.specs.Words.{Words, more}
 use Rattle.quotient.specs.Residue.{constant, timesX, product, power, residueOfX}
 use Rattle.quotient.proofs.TimesX.{timesX-zeros}
-use Rattle.quotient.proofs.Operations.{timesX-words, product-words, residueOfX-words, power-words}
+use Rattle.quotient.proofs.Operations.{product-words, residueOfX-words, power-words}
 use Rattle.array.proofs.Words.{words-length, zeros-words, padded-words, snoc-words}
 use Rattle.quotient.proofs.Ring.{residueModule, mulResidue, xResidue, mul-x}
 use Rattle.array.specs.Array.{padded, Holds}
 use Rattle.array.proofs.Padded.{padded-zeros, front-is}
-use Rattle.residue.specs.Delayed.{Delayed, Stepped}
 use Rattle.residue.proofs.Power.{power-holds, power-even, power-odd}
-use Rattle.residue.proofs.ring.ProductLoop.{delayed-more}
-use Rattle.residue.proofs.ring.TimesX.{zero-times-plus}
 
 -- the product with X is timesX
 product-x : {p n : ℕ} {t u : List ℕ} → 2 ≤ p → Words p n t → Words p n u → product p t (residueOfX p t) u ≡ timesX p t u
@@ -63,27 +60,18 @@ monomial-below p n e t w big b l x z =
 pub half-holds : (p n k : ℕ) (t h : List ℕ) → h ≡ padded (power p (take n t) (residueOfX p (take n t)) k) → 2 ≤ p → Holds p n t → Holds p n h
 half-holds p n k t h m big x = power-holds p n k t (residueOfX p (take n t)) h m big x (residueOfX-words big (x .words))
 
-module _ (p n e : ℕ) (t h w : List ℕ) (m : h ≡ padded (power p (take n t) (residueOfX p (take n t)) (e / 2))) (big : 2 ≤ p) (b : n ≤ 16) (x : Holds p n t)
-    (d : Delayed p n n (product p (take n t) (take n h) (take n h)) w) where
+module _ (p n e : ℕ) (t h w : List ℕ) (m : h ≡ padded (power p (take n t) (residueOfX p (take n t)) (e / 2))) (big : 2 ≤ p) (x : Holds p n t) where
   half : take n h ≡ power p (take n t) (residueOfX p (take n t)) (e / 2)
   half = front-is m (power-words big (x .words) (residueOfX-words big (x .words)) (e / 2))
 
-  pub raise-even : e % 2 ≡ 0 → Delayed p n 17 (power p (take n t) (residueOfX p (take n t)) e) w
-  raise-even even =
-      subst (λ s. Delayed p n 17 s w)
-      (ap₂ (product p (take n t)) half half ∙ power-even big (x .words) (residueOfX-words big (x .words)) e even)
-      (delayed-more (omega arith) d)
+  pub raise-even : e % 2 ≡ 0 → w ≡ padded (product p (take n t) (take n h) (take n h)) → w ≡ padded (power p (take n t) (residueOfX p (take n t)) e)
+  raise-even even f = f ∙ ap padded (ap₂ (product p (take n t)) half half ∙ power-even big (x .words) (residueOfX-words big (x .words)) e even)
 
-  pub raise-odd : (w′ : List ℕ) → (e % 2 ≡ 0 → ⊥) → Stepped p n (take n t) 0 (take n h) w w′ → Delayed p n 17 (power p (take n t) (residueOfX p (take n t)) e) w′
-  raise-odd w′ odd step =
-      let square : List ℕ = product p (take n t) (take n h) (take n h) in
-      let wx : Words p n (residueOfX p (take n t)) = residueOfX-words big (x .words) in
-      let wh : Words p n (take n h) = half-holds p n (e / 2) t h m big x .words in
-      let ws : Words p n square = product-words big (x .words) (take n h) wh in
-      let wr : Words p n (timesX p (take n t) square) = timesX-words big (x .words) ws in
-      subst (λ s. Delayed p n 17 s w′)
-      (zero-times-plus big wh wr
-      ∙ sym (product-x big (x .words) ws)
+  pub raise-odd : (e % 2 ≡ 0 → ⊥) → w ≡ padded (timesX p (take n t) (product p (take n t) (take n h) (take n h)))
+      → w ≡ padded (power p (take n t) (residueOfX p (take n t)) e)
+  raise-odd odd f =
+      f
+      ∙ ap padded
+      (sym (product-x big (x .words) (product-words big (x .words) (take n h) (half-holds p n (e / 2) t h m big x .words)))
       ∙ ap (product p (take n t) (residueOfX p (take n t))) (ap₂ (product p (take n t)) half half)
-      ∙ power-odd big (x .words) wx e odd)
-      (delayed-more (omega arith) (step .next n square d))
+      ∙ power-odd big (x .words) (residueOfX-words big (x .words)) e odd)

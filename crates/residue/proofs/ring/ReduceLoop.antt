@@ -1,24 +1,15 @@
 -- The words of an array reduced modulo p, one after another.
---   remainder p w k   word k of w modulo p
-use mathlib.Core.Path.{_≡_, refl, ap, ap₂, _∙_}
-use mathlib.Core.List.{List, [], _∷_}
-use Prim.Native.Nat.{ℕ, zero, suc, _+_, _*_, _%_, _≤_, _<_}
+use mathlib.Core.Path.{_≡_, ap, ap₂, _∙_}
+use mathlib.Core.List.{List}
+use Prim.Native.Nat.{ℕ, _+_, _*_, _%_, _≤_, _<_}
 use native.Mathlib.Omega.{arith}
-use lib.ListN.{length, getD, take, set}
+use lib.ListN.{getD, take, set}
 use Rattle.array.specs.Array.{padded}
 use Rattle.residue.specs.Delayed.{reduced, Delayed}
-use Rattle.array.proofs.Painted.{painted, table, painted-next, painted-above}
+use Rattle.array.proofs.Painted.{painted, painted-next, painted-above}
 use Rattle.array.proofs.Padded.{array-fits, painted-array}
 use Rattle.residue.proofs.Step.{delayed-word}
-
-unfoldable pub remainder : ℕ → List ℕ → ℕ → ℕ
-remainder p w k = getD w k 0 % p
-
-table-remainder : (p n : ℕ) (w : List ℕ) → n ≤ length w → table (remainder p w) n ≡ reduced p (take n w)
-unfolding table remainder reduced
-table-remainder p zero w h = refl
-table-remainder p (suc n) [] h = absurd (omega arith)
-table-remainder p (suc n) (a ∷ w) h = ap (λ l. a % p ∷ l) (table-remainder p n w (omega arith))
+use Rattle.residue.proofs.Remainders.{remainder, table-remainder}
 
 pub reduce-turn : (p j a : ℕ) (w w′ : List ℕ) → w′ ≡ painted w (remainder p w) j → a ≡ getD w′ j 0 % p → set w′ j a ≡ painted w (remainder p w) (j + 1)
 unfolding remainder

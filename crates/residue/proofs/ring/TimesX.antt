@@ -8,16 +8,11 @@ use lib.ListN.{getD, take}
 use Rattle.algebra.specs.Lists.{All}
 use Rattle.array.specs.Words.{Words, none, more}
 use Rattle.quotient.specs.Residue.{sum, scale, timesX}
-use Rattle.quotient.proofs.Sums.{sum-comm, sum-zero, scale-zero}
-use Rattle.quotient.proofs.Operations.{constant-words, timesX-words}
+use Rattle.quotient.proofs.Operations.{timesX-words}
 use Rattle.array.specs.Array.{padded, Holds}
 use Rattle.array.proofs.Padded.{holds-word}
 use Rattle.residue.specs.Delayed.{reduced, Delayed, Stepped}
-use Rattle.residue.proofs.ring.ProductLoop.{delayed-more, delayed-same}
-
--- 0·v + u = u
-pub zero-times-plus : {p n : ℕ} {u v : List ℕ} → 2 ≤ p → Words p n v → Words p n u → sum p (scale p 0 v) u ≡ u
-zero-times-plus {p} {n} {u} {v} big wv wu = ap (λ s. sum p s u) (scale-zero wv) ∙ sum-comm (constant-words n (omega arith)) wu ∙ sum-zero wu
+use Rattle.residue.proofs.DelayedProduct.{zero-times-plus, delayed-more, delayed-same}
 
 -- the words of a residue are reduced
 

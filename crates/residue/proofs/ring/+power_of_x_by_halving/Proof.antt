@@ -5,9 +5,7 @@ use borrow.Fn.PlainCycle.{Measures, is, falls, and}
 use Prim.Native.Nat.{ℕ, _<_}
 use native.Mathlib.Omega.{arith}
 use Rattle.residue.proofs.ring.PowerOfX.{monomial-below}
-use Rattle.residue.proofs.ring.ProductLoop.{reduced-is, delayed-same}
 use Rattle.residue.proofs.ring.raise.Reads as raise
-use Rattle.residue.proofs.ring.reduce.Reads as reduce
 use Rattle.residue.proofs.ring.power_of_x_by_halving.Reads as power
 use Rattle.residue.proofs.ring.power_of_x_by_halving.Kinds as kinds
 use Rattle.residue.proofs.ring.+power_of_x_by_halving.Lts-power_of_x_by_halving as lts
@@ -24,33 +22,30 @@ module _ (t : ℕ) where
   abbrev power-under : In 2 kinds.ps
   power-under = and 2 kinds.ps (falls 2 kinds.ps _<_ μ-power t) power.Pre
 
-  mul-w : lts.Need-mul-w (power-under, power.Post, raise.Asked, raise.Learnt, reduce.Asked, reduce.Learnt) power-at power.Post
+  mul-w : lts.Need-mul-w (power-under, power.Post, raise.Asked, raise.Learnt) power-at power.Post
   mul-w c = search needs
 
-  element-write-w : lts.Need-element-write-w (power-under, power.Post, raise.Asked, raise.Learnt, reduce.Asked, reduce.Learnt) power-at power.Post
+  element-write-w : lts.Need-element-write-w (power-under, power.Post, raise.Asked, raise.Learnt) power-at power.Post
   element-write-w c = search needs
 
-  returns : lts.Need-returns (power-under, power.Post, raise.Asked, raise.Learnt, reduce.Asked, reduce.Learnt) power-at power.Post
+  returns : lts.Need-returns (power-under, power.Post, raise.Asked, raise.Learnt) power-at power.Post
   returns c = search monomial-below
 
-  power-of-x-by-halving-requires : lts.Need-power-of-x-by-halving-requires (power-under, power.Post, raise.Asked, raise.Learnt, reduce.Asked, reduce.Learnt) power-at power.Post
+  power-of-x-by-halving-requires : lts.Need-power-of-x-by-halving-requires (power-under, power.Post, raise.Asked, raise.Learnt) power-at power.Post
   power-of-x-by-halving-requires c κs = (omega arith, search needs)
 
-  raise-requires : lts.Need-raise-requires (power-under, power.Post, raise.Asked, raise.Learnt, reduce.Asked, reduce.Learnt) power-at power.Post
+  raise-requires : lts.Need-raise-requires (power-under, power.Post, raise.Asked, raise.Learnt) power-at power.Post
   raise-requires c κs = search needs
 
-  reduce-requires : lts.Need-reduce-requires (power-under, power.Post, raise.Asked, raise.Learnt, reduce.Asked, reduce.Learnt) power-at power.Post
-  reduce-requires c κs = (search needs, delayed-same (c .before .raise .ensures))
-
-  returns-2 : lts.Need-returns-2 (power-under, power.Post, raise.Asked, raise.Learnt, reduce.Asked, reduce.Learnt) power-at power.Post
-  returns-2 c = search reduced-is
+  returns-2 : lts.Need-returns-2 (power-under, power.Post, raise.Asked, raise.Learnt) power-at power.Post
+  returns-2 c = search needs
 
 pub +power-of-x-by-halving-spec : {M : Type 1} → statement M
 +power-of-x-by-halving-spec =
     close μ-power
     (λ t.
     lts.spec
-    (power-under t, power.Post, raise.Asked, raise.Learnt, reduce.Asked, reduce.Learnt)
+    (power-under t, power.Post, raise.Asked, raise.Learnt)
     (power-at t)
     power.Post
     (mul-w t)
@@ -58,5 +53,4 @@ pub +power-of-x-by-halving-spec : {M : Type 1} → statement M
     (returns t)
     (power-of-x-by-halving-requires t)
     (raise-requires t)
-    (reduce-requires t)
     (returns-2 t))

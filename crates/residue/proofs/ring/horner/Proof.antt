@@ -5,7 +5,7 @@ use Prim.Native.Nat.{_≤_}
 use lib.ListN.{take, drop}
 use Rattle.quotient.specs.Residue.{substitute}
 use Rattle.array.specs.Array.{padded}
-use Rattle.residue.proofs.ring.ProductLoop.{next-word}
+use Rattle.residue.proofs.DelayedProduct.{next-word}
 use Rattle.residue.proofs.ring.HornerLoop.{substitute-starts, substitute-holds, lowest-below, substitute-turn, substitute-done}
 use Rattle.residue.proofs.ring.horner.Statement.{statement}
 use Rattle.residue.proofs.ring.horner.Tie as tie

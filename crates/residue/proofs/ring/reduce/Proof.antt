@@ -3,7 +3,8 @@ use borrow.Author.Needs.{needs}
 use mathlib.Core.Path.{_≡_}
 use Prim.Native.Nat.{_-_, _≤_}
 use Rattle.array.proofs.Painted.{painted, painted-none}
-use Rattle.residue.proofs.ring.ReduceLoop.{remainder, reduce-asks, reduce-turn, reduce-done}
+use Rattle.residue.proofs.Remainders.{remainder}
+use Rattle.residue.proofs.ring.ReduceLoop.{reduce-asks, reduce-turn, reduce-done}
 use Rattle.residue.proofs.ring.reduce.Statement.{statement}
 use Rattle.residue.proofs.ring.reduce.Tie as tie
 

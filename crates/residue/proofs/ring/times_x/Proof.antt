@@ -1,4 +1,4 @@
--- A step of Horner's rule with c = 0, and its words reduced.
+-- A step of Horner's rule by itself, and its words reduced.
 use borrow.Author.Needs.{needs}
 use Rattle.residue.proofs.ring.TimesX.{word-delayed, top-below, opposite-zero, stepped-delayed, times-x-is}
 use Rattle.residue.proofs.ring.times_x.Statement.{statement}

@@ -6,14 +6,15 @@ use native.Mathlib.Nat as Nat
 use native.Mathlib.Omega.{arith}
 use lib.ListN.{getD, take, drop, replicate, drop-of-length-le, getD-replicate}
 use Rattle.algebra.specs.Lists.{All}
-use Rattle.quotient.specs.Residue.{sum, scale, constant, timesX, product}
-use Rattle.quotient.proofs.Operations.{constant-zero}
+use Rattle.quotient.specs.Residue.{sum, scale, constant, product}
+use Rattle.quotient.proofs.Sums.{sum-comm, sum-zero, scale-zero}
+use Rattle.quotient.proofs.Operations.{constant-zero, constant-words}
+use Rattle.array.specs.Words.{Words}
 use Rattle.array.proofs.Words.{words-length}
 use Rattle.array.specs.Array.{padded, Holds}
-use Rattle.residue.specs.Delayed.{reduced, Delayed, Stepped}
+use Rattle.residue.specs.Delayed.{reduced, Delayed, Stepped, joined, Halves}
 use Rattle.array.proofs.Padded.{array-fits, padded-zeros, take-zeros, holds-word}
 use Rattle.residue.proofs.Horner.{product-at}
-use Rattle.residue.proofs.Step.{delayed-word}
 
 reduced-zeros : (p n : ℕ) → reduced p (replicate n 0) ≡ replicate n 0
 unfolding reduced
@@ -50,33 +51,21 @@ zero-opposite p n w some short e = ap (λ l. (0 + getD l (n - 1) 0) % p) e ∙ a
 pub next-word : (p n i : ℕ) (u : List ℕ) → 0 < i → i ≤ n → Holds p n u → getD u (i - 1) 0 < p
 next-word p n i u h l y = holds-word y (i - 1) (omega arith)
 
-pub product-turn : (p n i : ℕ) (t u v w w′ : List ℕ) → 0 < i → i ≤ n → n ≤ 16 → Holds p n u
-    → Delayed p n (n - i) (product p (take n t) (drop i (take n u)) (take n v)) w
-    → Stepped p n (take n t) (getD u (i - 1) 0) (take n v) w w′
-    → Delayed p n (n - (i - 1)) (product p (take n t) (drop (i - 1) (take n u)) (take n v)) w′
-product-turn p n i t u v w w′ pos l b y d step =
-    let rest : ℕ → List ℕ = λ j. product p (take n t) (drop j (take n u)) (take n v) in
-    let next : ℕ → List ℕ = λ j. sum p (scale p (getD u (i - 1) 0) (take n v)) (timesX p (take n t) (rest j)) in
-    let f : i ≡ i - 1 + 1 = omega arith in
-    let g : n - i + 1 ≡ n - (i - 1) = omega arith in
-    let e : next i ≡ rest (i - 1) = ap next f ∙ sym (product-at p n (i - 1) (take n t) u (take n v) (omega arith) (array-fits n u b (y .zeros))) in
-    subst (λ j. Delayed p n j (rest (i - 1)) w′) g (subst (λ s. Delayed p n (n - i + 1) s w′) e (step .next (n - i) (rest i) d))
+pub top-word : (p n : ℕ) (u : List ℕ) → 1 ≤ n → Holds p n u → getD u (n - 1) 0 < p
+top-word p n u some y = holds-word y (n - 1) (omega arith)
 
--- the new top word, and its opposite for the next step
-module _ (p n top : ℕ) (w′ : List ℕ) (e : top ≡ getD w′ (n - 1) 0) where
-  pub stepped-top-small : (i c : ℕ) (t s v w : List ℕ) → 1 ≤ n → n ≤ 16 → 0 < i → Delayed p n (n - i) s w → Stepped p n t c v w w′ → top ≤ 64 * (p * p)
-  stepped-top-small i c t s v w some short pos d step =
-      let few : n - i + 1 ≤ 16 = omega arith in
-      omega (arith, e, delayed-word (step .next (n - i) s d) short (n - 1) (omega arith), Nat.mul-le-mul-right (3 * (p * p)) few)
+pub product-turn : (p n j : ℕ) (t u v w w′ : List ℕ) → j < n → n ≤ 16 → Holds p n u
+    → Delayed p n (n - (j + 1)) (product p (take n t) (drop (j + 1) (take n u)) (take n v)) w → Stepped p n (take n t) (getD u j 0) (take n v) w w′
+    → Delayed p n (n - j) (product p (take n t) (drop j (take n u)) (take n v)) w′
+product-turn p n j t u v w w′ l short y d step =
+    let more : n - (j + 1) + 1 ≡ n - j = omega arith in
+    subst (λ k. Delayed p n k (product p (take n t) (drop j (take n u)) (take n v)) w′) more
+    (subst (λ s. Delayed p n (n - (j + 1) + 1) s w′) (sym (product-at p n j (take n t) u (take n v) l (array-fits n u short (y .zeros))))
+    (step .next (n - (j + 1)) (product p (take n t) (drop (j + 1) (take n u)) (take n v)) d))
 
-  pub opposite-next : (q : ℕ) → (q + top) % p ≡ 0 → (q + getD w′ (n - 1) 0) % p ≡ 0
-  opposite-next q h = ap (λ a. (q + a) % p) (sym e) ∙ h
-
-pub product-done : (p n i : ℕ) (t u v w : List ℕ) → i ≤ 0 → Delayed p n (n - i) (product p t (drop i u) v) w → Delayed p n n (product p t u v) w
-product-done p n i t u v w h d =
-    let z : i ≡ 0 = omega arith in
-    let e : n - 0 ≡ n = omega arith in
-    subst (λ j. Delayed p n j (product p t u v) w) e (subst (λ j. Delayed p n (n - j) (product p t (drop j u) v) w) z d)
+-- 0·v + u = u, for a step that multiplies by X alone
+pub zero-times-plus : {p n : ℕ} {u v : List ℕ} → 2 ≤ p → Words p n v → Words p n u → sum p (scale p 0 v) u ≡ u
+zero-times-plus {p} {n} {u} {v} big wv wu = ap (λ s. sum p s u) (scale-zero wv) ∙ sum-comm (constant-words n (omega arith)) wu ∙ sum-zero wu
 
 -- what the next step and the reductions may assume of the words
 
@@ -87,12 +76,7 @@ delayed-more {p} {n} {j} {k} {s} {w} l d =
 pub delayed-same : {p n k : ℕ} {s w : List ℕ} → Delayed p n k s w → Delayed p n k (reduced p (take n w)) w
 delayed-same d = record { words = refl; small = d .small; zeros = d .zeros }
 
-module _ (p n k : ℕ) (s w : List ℕ) (d : Delayed p n k s w) where
-  pub step-given : k ≤ 16 → Delayed p n 16 (reduced p (take n w)) w
-  step-given h = delayed-same (delayed-more h d)
+-- the product in the arrays of even and odd words
 
-  pub reduce-given : k ≤ 16 → Delayed p n 17 (reduced p (take n w)) w
-  reduce-given h = delayed-same (delayed-more (omega arith) d)
-
-  pub reduced-is : (w′ : List ℕ) → w′ ≡ padded (reduced p (take n w)) → w′ ≡ padded s
-  reduced-is w′ e = e ∙ ap padded (d .words)
+pub halves-same : {p n k i : ℕ} {s e o : List ℕ} → Halves p n k i s e o → Halves p n k i (reduced p (take n (joined n i e o))) e o
+halves-same H = record { even = H .even; odd = H .odd; delayed = delayed-same (H .delayed) }
