@@ -15,6 +15,7 @@ use Rattle.array.specs.Array.{padded, Holds}
 use Rattle.residue.specs.Delayed.{reduced, Delayed, Stepped, joined, Halves}
 use Rattle.array.proofs.Padded.{array-fits, padded-zeros, take-zeros, holds-word}
 use Rattle.residue.proofs.Horner.{product-at}
+use Rattle.residue.proofs.Step.{delayed-word}
 
 reduced-zeros : (p n : ℕ) → reduced p (replicate n 0) ≡ replicate n 0
 unfolding reduced
@@ -80,3 +81,6 @@ delayed-same d = record { words = refl; small = d .small; zeros = d .zeros }
 
 pub halves-same : {p n k i : ℕ} {s e o : List ℕ} → Halves p n k i s e o → Halves p n k i (reduced p (take n (joined n i e o))) e o
 halves-same H = record { even = H .even; odd = H .odd; delayed = delayed-same (H .delayed) }
+
+pub joined-top-small : (p n k i h : ℕ) (s e o : List ℕ) → Halves p n k i s e o → k ≤ 16 → 1 ≤ n → n ≤ 16 → h ≡ getD (joined n i e o) (n - 1) 0 → h ≤ 64 * (p * p)
+joined-top-small p n k i h s e o H few some short f = omega (arith, delayed-word (H .delayed) short (n - 1) (omega arith), Nat.mul-le-mul-right (3 * (p * p)) few)

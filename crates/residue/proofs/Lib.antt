@@ -2,5 +2,5 @@
 mod Horner
 mod Remainders
 mod DelayedProduct
-pub mod Step
+mod Step
 pub mod Power

@@ -91,6 +91,6 @@ step-done p n j q c t v w w′ big pos g h x z b o l l′ e = record {
       };
 }
 
-pub shift-done : (p n j q : ℕ) (t w w′ : List ℕ) → 2 ≤ p → 1 ≤ n → n ≤ 16 → Holds p n t → q ≤ 2 * p → (q + getD w (n - 1) 0) % p ≡ 0
+pub step-alone : (p n j q : ℕ) (t w w′ : List ℕ) → 2 ≤ p → 1 ≤ n → n ≤ 16 → Holds p n t → q ≤ 2 * p → (q + getD w (n - 1) 0) % p ≡ 0
     → j ≤ n → n ≤ j → w′ ≡ painted w (term q 0 0 t t w) j → Stepped p n (take n t) 0 (take n t) w w′
-shift-done p n j q t w w′ big some short x b o l l′ e = step-done p n j q 0 t t w w′ big some short (omega arith) x x b o l l′ e
+step-alone p n j q t w w′ big some short x b o l l′ e = step-done p n j q 0 t t w w′ big some short (omega arith) x x b o l l′ e

@@ -207,7 +207,7 @@ fn reduce_joined(d: Barrett, n: usize, e: &[u64; 32], o: &[u64; 32], w: &mut [u6
     }
 }
 
-// Word j of X·w, where w is the joined words of e and o and its top word goes out as q·t.
+// Word j of X times the joined words of e and o, whose top word goes out as q·t.
 fn shifted_word(
     p: u64,
     n: usize,
@@ -228,7 +228,7 @@ fn shifted_word(
     joined_word(p, n, j - 1, e, o) + times(q, t[j])
 }
 
-// X·w modulo T into the array w, which is 0, where w stands for the joined words of e and o and q for the opposite of its top word.
+// X times the joined words of e and o, modulo T, into w, which is 0; q is the opposite of their top word.
 fn reduce_shifted(
     d: Barrett,
     n: usize,

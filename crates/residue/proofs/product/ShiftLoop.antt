@@ -1,5 +1,5 @@
--- X·w, where w is the joined words: its words, read one after another and reduced.
---   shifted n q t e o   the array that holds X·w, with the top word of w gone out as q·t
+-- X times the joined words: the words of that, read one after another and reduced.
+--   shifted n q t e o   the array that holds X times the joined words, whose top word has gone out as q·t
 use mathlib.Core.Path.{_≡_, sym, ap, ap₂, _∙_}
 use mathlib.Core.Bool.{Bool, true, false}
 use mathlib.Core.List.{List, [], _∷_}
@@ -20,7 +20,7 @@ use Rattle.residue.specs.Delayed.{reduced, timesXIf, joined, Halves}
 use Rattle.residue.proofs.Horner.{term, step-mod}
 use Rattle.residue.proofs.Step.{word-short, taken-small, delayed-word}
 use Rattle.residue.proofs.Remainders.{remainder, table-remainder}
-use Rattle.residue.proofs.DelayedProduct.{zero-times-plus}
+use Rattle.residue.proofs.DelayedProduct.{zero-times-plus, joined-top-small}
 use Rattle.residue.proofs.product.Joined.{padded-word, joined-zeros}
 
 unfoldable pub shifted : ℕ → ℕ → List ℕ → List ℕ → List ℕ → List ℕ
@@ -92,7 +92,7 @@ shift-done p n j q t e o w big some short ht oq l l′ f =
 -- both endings of a product
 module _ (p n top : ℕ) (t s e o w : List ℕ) (H : Halves p n n 0 s e o) where
   pub top-small : 1 ≤ n → n ≤ 16 → top ≡ getD (joined n 0 e o) (n - 1) 0 → top ≤ 64 * (p * p)
-  top-small some short f = omega (arith, delayed-word (H .delayed) short (n - 1) (omega arith), Nat.mul-le-mul-right (3 * (p * p)) short)
+  top-small some short f = joined-top-small p n n 0 top s e o H short some short f
 
   pub top-opposite : (q : ℕ) → top ≡ getD (joined n 0 e o) (n - 1) 0 → (q + top) % p ≡ 0 → (q + getD (joined n 0 e o) (n - 1) 0) % p ≡ 0
   top-opposite q f h = ap (λ a. (q + a) % p) (sym f) ∙ h

@@ -47,11 +47,11 @@ module _ (p n k i c q b r : ℕ) (t v e o : List ℕ) (short : n ≤ 16) (He : H
   abbrev pub second : ℕ → ℕ
   second = term q c 0 t v middle
 
-  -- word m of the array between the steps, without the products
-  shifted : (m : ℕ) → m < n → getD e (i + suc m) 0 + getD o (i + m) 0 ≡ getD (0 ∷ start) m 0
+  -- the words below, which are what word m of the array between the steps has beside its products
+  below-words : (m : ℕ) → m < n → getD e (i + suc m) 0 + getD o (i + m) 0 ≡ getD (0 ∷ start) m 0
   unfolding joinedWord
-  shifted zero l = ap₂ (λ x y. x + y) (He .blank (i + 1) (omega arith)) (Ho .blank (i + 0) (omega arith))
-  shifted (suc m) l =
+  below-words zero l = ap₂ (λ x y. x + y) (He .blank (i + 1) (omega arith)) (Ho .blank (i + 0) (omega arith))
+  below-words (suc m) l =
       let even : i + suc (suc m) ≡ i + 2 + m = omega arith in
       let odd : suc (i + suc m) ≡ i + 2 + m = omega arith in
       ap₂ (λ x y. getD e x 0 + getD (0 ∷ o) y 0) even odd ∙ sym (joined-word n (i + 2) m e o (omega arith))
@@ -59,7 +59,7 @@ module _ (p n k i c q b r : ℕ) (t v e o : List ℕ) (short : n ≤ 16) (He : H
   pub middle-word : (m : ℕ) → m < n → getD middle m 0 ≡ getD e (i + suc m) 0 + (getD o (i + m) 0 + b * getD v m 0 + r * getD t m 0)
   unfolding term
   middle-word m l =
-      padded-word first n m l ∙ ap (λ x. x + r * getD t m 0 + b * getD v m 0) (sym (shifted m l)) ∙ omega arith
+      padded-word first n m l ∙ ap (λ x. x + r * getD t m 0 + b * getD v m 0) (sym (below-words m l)) ∙ omega arith
 
   module _ (e′ o′ : List ℕ) (A : Added i c q v t n e e′) (B : Added i b r v t n o o′) where
     after : (j : ℕ) → j < n → joinedWord i e′ o′ j ≡ second j

@@ -12,7 +12,7 @@ use Rattle.array.proofs.Padded.{painted-array, holds-word}
 use Rattle.residue.specs.Delayed.{Delayed, Stepped, joined, Added, Half, Halves}
 use Rattle.residue.proofs.Horner.{term}
 use Rattle.residue.proofs.Step.{step-done, delayed-word}
-use Rattle.residue.proofs.DelayedProduct.{product-turn}
+use Rattle.residue.proofs.DelayedProduct.{product-turn, joined-top-small}
 use Rattle.residue.proofs.product.Joined.{joinedWord, joined-zeros, joined-word}
 use Rattle.residue.proofs.product.TwoRows.{half-next, middle, middle-word, joined-after}
 
@@ -50,9 +50,7 @@ module _ (p n i h : ℕ) (t u v e o : List ℕ) (short : n ≤ 16) (low : i + 2 
 
   module _ (top : h ≡ getD (joined n (i + 2) e o) (n - 1) 0) where
     pub top-small : h ≤ 64 * (p * p)
-    top-small =
-        let less : n - (i + 2) ≤ 16 = omega arith in
-        omega (arith, delayed-word (H .delayed) short (n - 1) (omega arith), Nat.mul-le-mul-right (3 * (p * p)) less)
+    top-small = joined-top-small p n (n - (i + 2)) (i + 2) h (product p (take n t) (drop (i + 2) (take n u)) (take n v)) e o H (omega arith) (omega arith) short top
 
     module _ (r x : ℕ) (big : 2 ≤ p) (ht : Holds p n t) (hu : Holds p n u) (hv : Holds p n v) (lr : r ≤ 2 * p) (or : (r + h) % p ≡ 0)
         (ex : x ≡ getD e (i + n) 0 + (getD o (i + n - 1) 0 + getD u (i + 1) 0 * getD v (n - 1) 0 + r * getD t (n - 1) 0)) where

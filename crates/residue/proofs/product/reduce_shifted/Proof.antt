@@ -1,4 +1,4 @@
--- Before turn j the first j words are those of X·w modulo p.
+-- Before turn j the first j words are those of X times the joined words, modulo p.
 use borrow.Author.Needs.{needs}
 use mathlib.Core.Path.{_≡_}
 use Prim.Native.Nat.{_-_, _≤_}

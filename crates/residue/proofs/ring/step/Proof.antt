@@ -6,7 +6,7 @@ use Prim.Native.Nat.{_-_, _≤_}
 use lib.ListN.{getD}
 use Rattle.array.proofs.Painted.{painted, painted-none}
 use Rattle.residue.proofs.Horner.{term}
-use Rattle.residue.proofs.Step.{word-short, carry-fits, carry-turn, step-turn, shift-done}
+use Rattle.residue.proofs.Step.{word-short, carry-fits, carry-turn, step-turn, step-alone}
 use Rattle.residue.proofs.ring.step.Statement.{statement}
 use Rattle.residue.proofs.ring.step.Tie as tie
 
@@ -53,7 +53,7 @@ loop-again : tie.Need-loop-again Inv-loop μ-loop
 loop-again c = (search needs, search carry-turn, search step-turn)
 
 returns : tie.Need-returns Inv-loop μ-loop
-returns c = search shift-done
+returns c = search step-alone
 
 pub step-spec : {M : Type 1} → statement M
 step-spec =
