@@ -40,11 +40,6 @@ module _ {A : Type 0} where
   member-append (x ∷ xs) ys a (inl e) = inl (inl e)
   member-append (x ∷ xs) ys a (inr m) = ⊎-elim (λ l. inl (inr l)) inr (member-append xs ys a m)
 
-  pub distinct-append : (xs ys : List A) → Distinct xs → Distinct ys → ((a : A) → Member a xs → Member a ys → ⊥) → Distinct (xs ++ ys)
-  distinct-append [] ys d e apart = e
-  distinct-append (x ∷ xs) ys d e apart =
-      (λ m. ⊎-elim (d .0) (apart x (inl refl)) (member-append xs ys x m), distinct-append xs ys (d .1) e (λ a m. apart a (inr m)))
-
 module _ {A B : Type 0} (f : A → B) where
   pub member-map : (xs : List A) (a : A) → Member a xs → Member (f a) (map f xs)
   member-map (x ∷ xs) a (inl e) = inl (ap f e)

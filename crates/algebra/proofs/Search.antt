@@ -9,7 +9,7 @@ use Prim.Native.Nat.{ℕ, zero, suc, _+_, _≤_, _<_}
 use native.Mathlib.Nat.{eq-or-lt-of-le}
 use native.Mathlib.Omega.{arith}
 use lib.ListN.{length}
-use Rattle.algebra.specs.Lists.{Member, Distinct, all, range, first}
+use Rattle.algebra.specs.Lists.{Member, Distinct, all, range, first, filter}
 
 pub range-suc : (a k : ℕ) → range a (suc k) ≡ a ∷ range (suc a) k
 unfolding range
@@ -61,6 +61,32 @@ module _ {A : Type 0} (test : A → Bool) where
 
   abbrev pub Found : List A → A → Type 0
   Found xs y = Member y xs × (test y ≡ true)
+
+  -- what a filter keeps
+
+  filter-pass : (x : A) (xs : List A) → test x ≡ true → filter test (x ∷ xs) ≡ x ∷ filter test xs
+  unfolding filter
+  filter-pass x xs e = rw (e, filter)
+
+  filter-fail : (x : A) (xs : List A) → test x ≡ false → filter test (x ∷ xs) ≡ filter test xs
+  unfolding filter
+  filter-fail x xs e = rw (e, filter)
+
+  pub filter-member : (xs : List A) (y : A) → Member y (filter test xs) → Found xs y
+  unfolding filter
+  filter-member (x ∷ xs) y m = by-head (test x) refl (filter-member xs y)
+    where
+      by-head : (b : Bool) → test x ≡ b → (Member y (filter test xs) → Found xs y) → Found (x ∷ xs) y
+      by-head true e rest =
+          ⊎-elim (λ f. (inl f, ap test f ∙ e)) (λ l. (inr (rest l .0), rest l .1)) (rw (filter-pass x xs e) at m)
+      by-head false e rest = let l : Found xs y = rest (rw (filter-fail x xs e) at m) in (inr (l .0), l .1)
+
+  pub member-filter : (xs : List A) (y : A) → Member y xs → test y ≡ true → Member y (filter test xs)
+  member-filter (x ∷ xs) y m h = by-head (test x) refl (λ l. member-filter xs y l h)
+    where
+      by-head : (b : Bool) → test x ≡ b → (Member y xs → Member y (filter test xs)) → Member y (filter test (x ∷ xs))
+      by-head true e rest = rw (filter-pass x xs e) (⊎-elim inl (λ l. inr (rest l)) m)
+      by-head false e rest = rw (filter-fail x xs e) (⊎-elim (λ f. absurd (true≢false (sym h ∙ ap test f ∙ e))) rest m)
 
   module _ (d : A) where
     pub first-pass : (x : A) (xs : List A) → test x ≡ true → first test d (x ∷ xs) ≡ x

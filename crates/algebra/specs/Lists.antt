@@ -6,6 +6,7 @@
 --   equal xs ys       whether two lists of numbers are equal
 --   range a k         the k numbers a, a + 1, …
 --   first test d xs   the first element of xs that passes the test, d where none does
+--   filter test xs    the elements of xs that pass the test, in the order of xs
 use mathlib.Core.Path.{_≡_}
 use mathlib.Core.Bool.{Bool, true, false, _&&_}
 use mathlib.Core.List.{List, [], _∷_}
@@ -42,3 +43,7 @@ range a (suc k) = a ∷ range (suc a) k
 unfoldable pub first : {A : Type 0} → (A → Bool) → A → List A → A
 first test d [] = d
 first test d (x ∷ xs) = elim (test x) [ true ↦ x | false ↦ first test d xs ]
+
+unfoldable pub filter : {A : Type 0} → (A → Bool) → List A → List A
+filter test [] = []
+filter test (x ∷ xs) = elim (test x) [ true ↦ x ∷ filter test xs | false ↦ filter test xs ]

@@ -1,7 +1,8 @@
--- Laws of lists of words, of arrays that hold them, and of loops that fill an array.
+-- Laws of lists of words, of arrays that hold them, of loops that fill an array, and of ascending lists of lists.
 pub mod Words
 pub mod Painted
 pub mod Padded
 pub mod Below
 mod Largest
 pub mod Copying
+pub mod Ascending

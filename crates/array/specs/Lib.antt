@@ -1,3 +1,4 @@
--- Lists of words below p, and residues and matrices in flat arrays.
+-- Lists of words below p, residues and matrices in flat arrays, and the order of lists.
 pub mod Words
 pub mod Array
+pub mod Ascending

@@ -1,53 +1,66 @@
--- The list of all residues has each of them, none twice, p^n in all: induction on n, since the lists of n + 1 words are those of
--- n words, each behind each of the words 0, …, p − 1.
+-- The list of all residues has each of them, in ascending order, so that none stands there twice, p^n in all: induction on n, since the lists of n + 1 words are
+-- those of n words, each behind each of the words 0, …, p − 1.
 use mathlib.Core.Path.{_≡_, refl, sym, _∙_, ap, ap₂, subst}
-use mathlib.Core.List.{List, [], _∷_, map, head-eq-of-cons-eq, tail-eq-of-cons-eq}
+use mathlib.Core.Bool.{true}
+use mathlib.Core.List.{List, [], _∷_, map}
 use mathlib.Core.Logic.{inl, inr, ⊎-elim}
 use Prim.Native.Nat.{ℕ, zero, suc, _+_, _*_, _^_}
 use native.Mathlib.Nat.{pow-zero, pow-succ'}
 use native.Mathlib.Omega.{arith}
 use lib.ListN.{length, length-append, length-map}
 use Rattle.algebra.specs.Lists.{Member, Distinct, range}
-use Rattle.algebra.proofs.Lists.{member-equal, member-append-left, member-append-right, member-append, member-map, map-member, distinct-map, distinct-append}
-use Rattle.algebra.proofs.Search.{range-length, range-bounds, range-member, range-distinct}
+use Rattle.algebra.proofs.Lists.{all-map, all-member, member-all, member-equal, member-append-left, member-append-right, member-append, member-map, map-member}
+use Rattle.algebra.proofs.Search.{range-length, range-bounds, range-member}
+use Rattle.array.specs.Ascending.{lower, Ascending}
+use Rattle.array.proofs.Ascending.{lower-high, lower-constant, ascending-append, ascending-distinct}
 use Rattle.array.specs.Words.{Words, none, more}
 use Rattle.quotient.specs.Residue.{Residue, residues, prefixed}
 use Rattle.quotient.proofs.Operations.{residue-path}
 
 prefixed-complete : (words : List ℕ) (us : List (List ℕ)) (a : ℕ) (u : List ℕ) → Member a words → Member u us → Member (a ∷ u) (prefixed words us)
 unfolding prefixed
-prefixed-complete (b ∷ words) us a u (inl e) m =
-    let behind = map (λ v. b ∷ v) us in
-    member-append-left behind (prefixed words us) (a ∷ u) (member-equal behind (ap (λ x. x ∷ u) (sym e)) (member-map (λ v. b ∷ v) us u m))
-prefixed-complete (b ∷ words) us a u (inr h) m =
-    member-append-right (map (λ v. b ∷ v) us) (prefixed words us) (a ∷ u) (prefixed-complete words us a u h m)
+prefixed-complete words (v ∷ us) a u m (inl e) =
+    let before = map (λ b. b ∷ v) words in
+    member-append-left before (prefixed words us) (a ∷ u) (member-equal before (ap (λ x. a ∷ x) (sym e)) (member-map (λ b. b ∷ v) words a m))
+prefixed-complete words (v ∷ us) a u m (inr h) =
+    member-append-right (map (λ b. b ∷ v) words) (prefixed words us) (a ∷ u) (prefixed-complete words us a u m h)
 
 prefixed-sound : (words : List ℕ) (us : List (List ℕ)) (v : List ℕ) → Member v (prefixed words us)
     → (a : ℕ) × (u : List ℕ) × Member a words × Member u us × (v ≡ a ∷ u)
 unfolding prefixed
-prefixed-sound (b ∷ words) us v h =
+prefixed-sound words (w ∷ us) v h =
     ⊎-elim
-    (λ m. let (u, l, e) = map-member (λ w. b ∷ w) us v m in (b, u, inl refl, l, e))
-    (λ m. let (a, u, k, l, e) = prefixed-sound words us v m in (a, u, inr k, l, e))
-    (member-append (map (λ w. b ∷ w) us) (prefixed words us) v h)
-
-prefixed-distinct : (words : List ℕ) (us : List (List ℕ)) → Distinct words → Distinct us → Distinct (prefixed words us)
-unfolding prefixed
-prefixed-distinct [] us hw hu = tt
-prefixed-distinct (b ∷ words) us hw hu =
-    distinct-append (map (λ v. b ∷ v) us) (prefixed words us)
-    (distinct-map (λ v. b ∷ v) us (λ v w l m e. tail-eq-of-cons-eq e) hu)
-    (prefixed-distinct words us (hw .1) hu)
-    (λ v m n.
-    let (u, l, e) = map-member (λ w. b ∷ w) us v m in
-    let (a, w, k, o, f) = prefixed-sound words us v n in
-    hw .0 (member-equal words (head-eq-of-cons-eq (sym f ∙ e)) k))
+    (λ m. let (a, l, e) = map-member (λ b. b ∷ w) words v m in (a, w, l, inl refl, e))
+    (λ m. let (a, u, k, l, e) = prefixed-sound words us v m in (a, u, k, inr l, e))
+    (member-append (map (λ b. b ∷ w) words) (prefixed words us) v h)
 
 prefixed-length : (words : List ℕ) (us : List (List ℕ)) → length (prefixed words us) ≡ length words * length us
 unfolding prefixed
-prefixed-length [] us = omega arith
-prefixed-length (b ∷ words) us =
-    length-append (map (λ u. b ∷ u) us) (prefixed words us) ∙ ap₂ _+_ (length-map us (λ u. b ∷ u)) (prefixed-length words us) ∙ omega arith
+prefixed-length words [] = omega arith
+prefixed-length words (u ∷ us) =
+    length-append (map (λ a. a ∷ u) words) (prefixed words us) ∙ ap₂ _+_ (length-map words (λ a. a ∷ u)) (prefixed-length words us) ∙ omega arith
+
+-- the words 0, …, p − 1 before one list
+range-ascending : (a k : ℕ) (u : List ℕ) → Ascending (map (λ b. b ∷ u) (range a k))
+unfolding range
+range-ascending a zero u = tt
+range-ascending a (suc k) u = (
+  all-map (λ b. b ∷ u) (λ v. lower (a ∷ u) v ≡ true) (range (suc a) k)
+      (member-all (λ b. lower (a ∷ u) (b ∷ u) ≡ true) (range (suc a) k) (λ b m. lower-constant a b u u refl (range-bounds (suc a) k b m .0))),
+  range-ascending (suc a) k u,
+)
+
+prefixed-ascending : (k : ℕ) (us : List (List ℕ)) → Ascending us → Ascending (prefixed (range 0 k) us)
+unfolding prefixed
+prefixed-ascending k [] h = tt
+prefixed-ascending k (u ∷ us) h =
+    ascending-append (map (λ a. a ∷ u) (range 0 k)) (prefixed (range 0 k) us) (range-ascending 0 k u) (prefixed-ascending k us (h .1)) by-tail
+  where
+    by-tail : (v w : List ℕ) → Member v (map (λ a. a ∷ u) (range 0 k)) → Member w (prefixed (range 0 k) us) → lower v w ≡ true
+    by-tail v w m l =
+        let (a, i, e) = map-member (λ a. a ∷ u) (range 0 k) v m in
+        let (b, x, j, o, f) = prefixed-sound (range 0 k) us w l in
+        ap₂ lower e f ∙ lower-high a b u x (all-member (λ y. lower u y ≡ true) us (h .0) x o)
 
 pub residues-complete : (p n : ℕ) (u : List ℕ) → Words p n u → Member u (residues p n)
 unfolding residues
@@ -63,10 +76,13 @@ residues-sound p (suc n) u h =
     let b = range-bounds 0 p a k in
     subst (Words p (suc n)) (sym e) (more (omega arith) (residues-sound p n v l))
 
-pub residues-distinct : (p n : ℕ) → Distinct (residues p n)
+pub residues-ascending : (p n : ℕ) → Ascending (residues p n)
 unfolding residues
-residues-distinct p zero = (λ m. m, tt)
-residues-distinct p (suc n) = prefixed-distinct (range 0 p) (residues p n) (range-distinct 0 p) (residues-distinct p n)
+residues-ascending p zero = (tt, tt)
+residues-ascending p (suc n) = prefixed-ascending p (residues p n) (residues-ascending p n)
+
+pub residues-distinct : (p n : ℕ) → Distinct (residues p n)
+residues-distinct p n = ascending-distinct (residues p n) (residues-ascending p n)
 
 pub residues-length : (p n : ℕ) → length (residues p n) ≡ p ^ n
 unfolding residues

@@ -34,7 +34,7 @@ pub substitution-preserves : Theorem.SubstitutionPreserves
 substitution-preserves p m n t1 t2 s big w1 w2 ws root = Substitution.substitution-preserves big w1 w2 ws root
 
 pub residues-are-listed : Theorem.ResiduesAreListed
-residues-are-listed p n = (Listing.residues-distinct p n, Listing.residues-length p n, Listing.residues-complete p n, Listing.residues-sound p n)
+residues-are-listed p n = (Listing.residues-ascending p n, Listing.residues-distinct p n, Listing.residues-length p n, Listing.residues-complete p n, Listing.residues-sound p n)
 
 pub field-exactly : Theorem.FieldExactly
 field-exactly p n t prime wt = (FieldModulus.inverses-irreducible prime wt, FieldModulus.irreducible-inverses prime wt)

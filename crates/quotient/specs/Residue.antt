@@ -2,7 +2,7 @@
 -- A modulus T = X^n + t(n−1)X^(n−1) + … + t0 is given by the list t of its n lower words, constant first. A residue is n words,
 -- each below p, in the same order: a polynomial of degree below n, taken modulo p and T.
 --   Residue p n          the residues
---   residues p n         the list of all of them
+--   residues p n         the list of all of them, in ascending order: coefficients compared from the highest power down (Ascending.antt of the crate array)
 --   firstResidue p t b   the first residue modulo T that passes the test b; 0 where none does
 --   sum p u v            u + v, coefficient by coefficient; also of polynomials of different degrees
 --   scale p c u          c·u
@@ -10,6 +10,7 @@
 --   timesX p t u         X·u modulo T: u shifted up by one place, minus its top coefficient times t
 --   product p t u v      u·v modulo T, by Horner's rule in u
 --   power p t u k        u^k modulo T
+--   conjugate p t u k    u^(p^k) modulo T
 --   residueOfX p t       X modulo T; for n = 1 the constant −t0
 --   substitute p t s u   u(S) modulo T, by Horner's rule
 --   modulusAt p t s m    M(S) modulo T, where M is the monic polynomial with the lower words m
@@ -18,7 +19,7 @@
 use mathlib.Core.Path.{_≡_}
 use mathlib.Core.Bool.{Bool}
 use mathlib.Core.List.{List, [], _∷_, _++_, map}
-use Prim.Native.Nat.{ℕ, zero, suc, _+_, _-_, _*_, _%_}
+use Prim.Native.Nat.{ℕ, zero, suc, _+_, _-_, _*_, _%_, _^_}
 use lib.ListN.{length, replicate}
 use Rattle.algebra.specs.Lists.{range, first}
 use Rattle.array.specs.Words.{Words}
@@ -26,10 +27,10 @@ use Rattle.array.specs.Words.{Words}
 abbrev pub Residue : ℕ → ℕ → Type 0
 Residue p n = (u : List ℕ) × Words p n u
 
--- each list of `us` behind each of the words
+-- each list of `us` behind each of the words, one list of `us` after the other
 unfoldable pub prefixed : List ℕ → List (List ℕ) → List (List ℕ)
-prefixed [] us = []
-prefixed (a ∷ words) us = map (λ u. a ∷ u) us ++ prefixed words us
+prefixed words [] = []
+prefixed words (u ∷ us) = map (λ a. a ∷ u) words ++ prefixed words us
 
 unfoldable pub residues : ℕ → ℕ → List (List ℕ)
 residues p zero = [] ∷ []
@@ -71,6 +72,9 @@ product p t (c ∷ u) v = sum p (scale p c v) (timesX p t (product p t u v))
 unfoldable pub power : ℕ → List ℕ → List ℕ → ℕ → List ℕ
 power p t u zero = constant (length t) 1
 power p t u (suc k) = product p t u (power p t u k)
+
+unfoldable pub conjugate : ℕ → List ℕ → List ℕ → ℕ → List ℕ
+conjugate p t u k = power p t u (p ^ k)
 
 unfoldable pub residueOfX : ℕ → List ℕ → List ℕ
 residueOfX p t = timesX p t (constant (length t) 1)

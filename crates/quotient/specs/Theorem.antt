@@ -5,7 +5,7 @@
 --   ProductIsRemainder      u·v modulo T is the remainder of the polynomial u·v on division by T, and there is only one remainder
 --   SubstitutionIsSum       u(S) modulo T is the sum of the u_i·S^i, the powers by repeated product
 --   SubstitutionPreserves   if T1(S) = 0 modulo T2, then u ↦ u(S) modulo T2 preserves sums, products and one
---   ResiduesAreListed       the list of all residues has each of them, none twice, p^n in all
+--   ResiduesAreListed       the list of all residues has each of them, in ascending order, none twice, p^n in all
 --   FieldExactly            p prime: every residue but 0 has an inverse exactly when T has no divisor of degree 1 to n − 1
 --   PowerOfUnit             for such T, u^(p^n − 1) = 1 for every residue u but 0
 --   IrreducibleDivisor      p prime: T has a monic divisor of degree 1 to n that has itself no divisor of lower degree but constants
@@ -20,6 +20,7 @@ use Rattle.algebra.specs.Prime.{Prime}
 use Rattle.algebra.specs.Ring.{CommutativeRing}
 use Rattle.quotient.specs.Divisor.{Divides, HasDivisor, Remainder, polynomialProduct}
 use Rattle.quotient.specs.Map.{Preserves}
+use Rattle.array.specs.Ascending.{Ascending}
 use Rattle.array.specs.Words.{Words}
 use Rattle.quotient.specs.Residue.{Residue, residues, sum, scale, constant, product, power, residueOfX, substitute, modulusAt, Inverses}
 
@@ -58,7 +59,7 @@ SubstitutionPreserves =
 
 abbrev pub ResiduesAreListed : Type 0
 ResiduesAreListed =
-    (p n : ℕ) → Distinct (residues p n) × (length (residues p n) ≡ p ^ n)
+    (p n : ℕ) → Ascending (residues p n) × Distinct (residues p n) × (length (residues p n) ≡ p ^ n)
     × ((u : List ℕ) → Words p n u → Member u (residues p n)) × ((u : List ℕ) → Member u (residues p n) → Words p n u)
 
 abbrev pub FieldExactly : Type 0
