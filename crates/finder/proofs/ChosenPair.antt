@@ -19,12 +19,13 @@ use Rattle.finder.specs.Finder.{findS, findR}
 use Rattle.finder.specs.Theorem.{ChosenPair}
 use Rattle.algebra.specs.Search.{Smallest}
 use Rattle.galois.proofs.Alpha.{alpha-is, alpha-kernel, alpha-independent, alpha-constant}
-use Rattle.finder.proofs.Construction.{root-independent, root-of-t1, powers-of-s-independent}
+use Rattle.finder.proofs.Construction.{root-of-t1, powers-of-s-independent}
 use Rattle.galois.proofs.Express.{express-is}
 use Rattle.galois.proofs.Irreducible.{constant-root, kernel-independent, eigenvector-unique}
 use Rattle.galois.proofs.KernelVector.{KernelVector, kernel-of-eigenvector}
 use Rattle.galois.proofs.NoDivisor.{constant-positive, no-divisor}
 use Rattle.roots.proofs.RootOfRatio.{root-of-ratio-is}
+use Rattle.galois.proofs.RootIndependent.{root-independent}
 use Rattle.galois.proofs.ResidueConstants.{constant-injective, constant-is-word}
 use Rattle.algebra.proofs.Smallest.{smallest-unique}
 use Rattle.roots.proofs.Zeta.{zeta-is}

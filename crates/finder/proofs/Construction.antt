@@ -6,42 +6,27 @@ use mathlib.Core.List.{List}
 use Prim.Native.Nat.{ℕ, suc, _+_, _-_, _*_, _%_, _^_, _<_}
 use native.Mathlib.Omega.{arith}
 use Rattle.algebra.specs.Prime.{Prime}
-use Rattle.algebra.specs.Ring.{CommutativeRing, Field, numeral}
+use Rattle.algebra.specs.Ring.{CommutativeRing, numeral}
 use Rattle.algebra.specs.Ring as Ring
 use Rattle.algebra.proofs.Frobenius.{numeral-mod}
-use Rattle.algebra.proofs.RingLaws.{zero-mul, eq-of-sub-zero, numeral-add, numeral-mul, power-product}
+use Rattle.algebra.proofs.RingLaws.{numeral-add, numeral-mul, power-product}
 use Rattle.quotient.specs.Divisor.{HasDivisor}
 use Rattle.array.specs.Words.{Words}
 use Rattle.quotient.specs.Residue.{Residue, scale, constant, power, residueOfX, substitute, modulusAt}
 use Rattle.quotient.proofs.Evaluation.{evaluate-monic}
-use Rattle.quotient.proofs.Field.{residueField}
 use Rattle.quotient.proofs.Reduction.{characteristic, zero-is, scale-is}
 use Rattle.quotient.proofs.Ring.{residueRing}
-use Rattle.quotient.proofs.Substitution.{Homomorphism, homomorphism-zero, evaluate-homomorphism, modulusAt-is, substitute-is}
-use Rattle.quotient.proofs.Operations.{residue-path, scale-words, constant-words, substitute-words, constant-length}
+use Rattle.quotient.proofs.Substitution.{modulusAt-is}
+use Rattle.quotient.proofs.Operations.{scale-words, constant-words, substitute-words, constant-length}
 use Rattle.roots.specs.Roots.{OrderModulo}
 use Rattle.galois.specs.Express.{Independent}
 use Rattle.galois.proofs.Irreducible.{kernel-independent}
 use Rattle.galois.proofs.KernelVector.{KernelVector}
 use Rattle.galois.proofs.NoDivisor.{constant-positive, no-divisor}
-use Rattle.galois.proofs.ResidueConstants.{ring-proper, constant-is-word, evaluate-constant, power-numeral}
+use Rattle.galois.proofs.RootIndependent.{root-independent}
+use Rattle.galois.proofs.ResidueConstants.{constant-is-word, evaluate-constant, power-numeral}
 use Rattle.galois.proofs.Transfer.{transfer-root}
 use Rattle.roots.proofs.Zeta.{numeral-power}
-
--- a homomorphism out of a field is injective: φ(d) = 0 for d ≠ 0 would give φ(1) = φ(d)·φ(1/d) = 0
-module _ {A B : Type 0} (F : Field A) (S : CommutativeRing B) (proper : S .one ≡ S .zero → ⊥) {f : A → B} (h : Homomorphism (F .ring) S f) where
-  kernel-trivial : (d : A) → f d ≡ S .zero → Dec (d ≡ F .ring .zero) → d ≡ F .ring .zero
-  kernel-trivial d e (yes z) = z
-  kernel-trivial d e (no n) =
-      absurd (proper (sym (h .one) ∙ ap f (sym (F .mul-inverse d n)) ∙ h .mul d (F .inverse d) ∙ ap (λ x. S .mul x (f (F .inverse d))) e ∙ zero-mul S (f (F .inverse d))))
-
-  pub field-injective : (a b : A) → f a ≡ f b → a ≡ b
-  field-injective a b e =
-      let d : A = F .ring .add a (F .ring .neg b) in
-      eq-of-sub-zero (F .ring) a b
-      (kernel-trivial d
-      (h .add a (F .ring .neg b) ∙ ap (λ x. S .add x (f (F .ring .neg b))) e ∙ sym (h .add b (F .ring .neg b)) ∙ ap f (F .ring .add-neg b) ∙ homomorphism-zero h)
-      (F .discrete d (F .ring .zero)))
 
 module _ {p n : ℕ} {t : List ℕ} (prime : Prime p) (wt : Words p (suc n) t) where
   abbrev K : CommutativeRing (Residue p (suc n))
@@ -64,17 +49,6 @@ module _ {p n : ℕ} {t : List ℕ} (prime : Prime p) (wt : Words p (suc n) t) w
   scaled-power c a b v e solves =
       power-product K (numeral K c) v (suc n) ∙ ap₂ (K .mul) (sym (numeral-power K c (suc n))) e ∙ sym (numeral-mul K (c ^ suc n) a)
       ∙ sym (numeral-mod K p (c ^ suc n * a) (characteristic (prime .0) wt)) ∙ ap (numeral K) solves
-
--- a root of a T1 without proper divisors has independent powers
-pub root-independent : {p n : ℕ} {t1 t2 s : List ℕ} (prime : Prime p) (w1 : Words p (suc n) t1) (w2 : Words p (suc n) t2) → (HasDivisor p t1 → ⊥)
-    → (ws : Words p (suc n) s) → modulusAt p t2 s t1 ≡ constant (suc n) 0 → Independent p (suc n) t2 s
-unfolding residueField
-root-independent {t1 = t1} {s = s} prime w1 w2 irreducible ws root f g wf wg e =
-    let L = residueRing (prime .0) w2 in
-    ap (λ u. u .0)
-    (field-injective (residueField prime w1 irreducible) L (ring-proper prime w2)
-    (evaluate-homomorphism (prime .0) w1 L (characteristic (prime .0) w2) (s, ws) (residue-path (sym (modulusAt-is (prime .0) w2 (s, ws) t1) ∙ root ∙ sym (zero-is (prime .0) w2))))
-    (f, wf) (g, wg) (residue-path (sym (substitute-is (prime .0) w2 (s, ws) f) ∙ e ∙ substitute-is (prime .0) w2 (s, ws) g)))
 
 module _ {p n : ℕ} {t1 t2 : List ℕ} (prime : Prime p) (w1 : Words p (suc n) t1) (w2 : Words p (suc n) t2) (z : ℕ) (order : OrderModulo p (suc n) z)
     {v1 v2 : List ℕ} (k1 : KernelVector p (suc n) t1 z v1) (k2 : KernelVector p (suc n) t2 z v2) (a1 a2 c : ℕ)

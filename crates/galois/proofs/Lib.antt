@@ -6,6 +6,7 @@ pub mod Transfer
 pub mod FirstNonZero
 pub mod KernelVector
 pub mod ResidueConstants
+pub mod RootIndependent
 pub mod Irreducible
 pub mod NoDivisor
 pub mod Alpha

@@ -21,13 +21,13 @@ use Rattle.quotient.proofs.Descent.{irreducible-divisor}
 use Rattle.quotient.proofs.Divisor.{divides-transitive, divides-zero, reduction-homomorphism}
 use Rattle.quotient.proofs.Field.{residueField}
 use Rattle.quotient.proofs.Operations.{residue-path}
-use Rattle.quotient.proofs.Reduction.{characteristic, reduce, mul-is, one-is}
+use Rattle.quotient.proofs.Reduction.{characteristic, reduce}
 use Rattle.quotient.proofs.Ring.{residueRing, xResidue}
 use Rattle.quotient.proofs.Substitution.{Homomorphism, homomorphism-power, homomorphism-zero, evaluate-of-x}
 use Rattle.quotient.proofs.FieldModulus.{has-inverse, inverse-of}
 use Rattle.quotient.proofs.Units.{Invertible, nonzero-invertible}
-use Rattle.irreducible.specs.Rabin.{conjugate, difference, Rabin}
-use Rattle.irreducible.proofs.Conjugates.{conjugate-is, difference-is}
+use Rattle.irreducible.specs.Rabin.{conjugateOfX, difference, Rabin}
+use Rattle.irreducible.proofs.Differences.{conjugate-of-x-is, difference-is}
 use Rattle.irreducible.proofs.PeriodOfX.{power-of-size, no-lower-period}
 
 module _ {p n : ℕ} {t : List ℕ} (prime : Prime p) (wt : Words p (suc n) t) where
@@ -51,9 +51,9 @@ module _ {p n : ℕ} {t : List ℕ} (prime : Prime p) (wt : Words p (suc n) t) w
   -- T without proper divisors satisfies Rabin's conditions
 
   module _ (irreducible : HasDivisor p t → ⊥) where
-    fixed-x : conjugate p t (suc n) ≡ residueOfX p t
+    fixed-x : conjugateOfX p t (suc n) ≡ residueOfX p t
     unfolding xResidue
-    fixed-x = conjugate-is (prime .0) wt (suc n) ∙ ap (λ u. u .0) (power-of-size prime wt irreducible x)
+    fixed-x = conjugate-of-x-is (prime .0) wt (suc n) ∙ ap (λ u. u .0) (power-of-size prime wt irreducible x)
 
     inverse-at : (k : ℕ) → 0 < k → k < suc n → HasInverse p t (difference p t k)
     inverse-at k pos less =
@@ -94,10 +94,10 @@ module _ {p n : ℕ} {t : List ℕ} (prime : Prime p) (wt : Words p (suc n) t) w
     image-of-x = evaluate-of-x (prime .0) wt L (characteristic (prime .0) wd) y (divides-zero (prime .0) wd t divides)
 
     -- X^(p^k) = X modulo T, and so modulo D
-    fixed-image : (k : ℕ) → conjugate p t k ≡ residueOfX p t → Ring.power L y (p ^ k) ≡ y
+    fixed-image : (k : ℕ) → conjugateOfX p t k ≡ residueOfX p t → Ring.power L y (p ^ k) ≡ y
     unfolding xResidue
     fixed-image k e =
-        let here : Ring.power K x (p ^ k) ≡ x = residue-path (sym (conjugate-is (prime .0) wt k) ∙ e) in
+        let here : Ring.power K x (p ^ k) ≡ x = residue-path (sym (conjugate-of-x-is (prime .0) wt k) ∙ e) in
         ap (λ u. Ring.power L u (p ^ k)) (sym image-of-x) ∙ sym (homomorphism-power preserves x (p ^ k)) ∙ ap φ here ∙ image-of-x
 
     -- where X^(p^k) = X modulo D, X^(p^k) − X has no inverse modulo T

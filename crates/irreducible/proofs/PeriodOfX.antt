@@ -11,13 +11,13 @@ use Rattle.algebra.specs.Ring.{CommutativeRing, Field, power}
 use Rattle.algebra.proofs.FieldLaws.{mul-left-cancel}
 use Rattle.algebra.proofs.Lists.{member-all}
 use Rattle.algebra.proofs.PowerRoots.{power-roots-at-most}
-use Rattle.algebra.proofs.RingLaws.{power-mul, power-of-zero, power-one, power-suc}
+use Rattle.algebra.proofs.RingLaws.{power-of-zero, power-suc}
 use Rattle.array.specs.Words.{Words}
 use Rattle.quotient.specs.Divisor.{HasDivisor}
 use Rattle.quotient.specs.Residue.{Residue}
 use Rattle.quotient.proofs.Evaluation.{evaluate}
 use Rattle.quotient.proofs.Field.{residueField, nonzeroResidues, nonzero-residues, nonzero-residues-length, power-of-nonzero}
-use Rattle.quotient.proofs.Frobenius.{frobenius-evaluate}
+use Rattle.quotient.proofs.Conjugates.{evaluate-conjugate}
 use Rattle.quotient.proofs.Operations.{residue-discrete}
 use Rattle.quotient.proofs.Reduction.{characteristic, reduce, reduce-residue}
 use Rattle.quotient.proofs.Ring.{residueRing, xResidue}
@@ -38,20 +38,12 @@ module _ {p n : ℕ} {t : List ℕ} (prime : Prime p) (wt : Words p (suc n) t) w
   abbrev x : Residue p (suc n)
   x = xResidue (prime .0) wt
 
-  -- f(a)^(p^k) = f(a^(p^k))
-  evaluate-power : (f : List ℕ) (a : Residue p (suc n)) (k : ℕ) → power K (evaluate K f a) (p ^ k) ≡ evaluate K f (power K a (p ^ k))
-  evaluate-power f a zero = ap (power K (evaluate K f a)) (pow-zero p) ∙ power-one K (evaluate K f a) ∙ sym (ap (evaluate K f) (ap (power K a) (pow-zero p) ∙ power-one K a))
-  evaluate-power f a (suc k) =
-      ap (power K (evaluate K f a)) (pow-suc p k) ∙ power-mul K (evaluate K f a) (p ^ k) p ∙ ap (λ y. power K y p) (evaluate-power f a k)
-      ∙ frobenius-evaluate K prime (characteristic (prime .0) wt) f (power K a (p ^ k))
-      ∙ ap (evaluate K f) (sym (ap (power K a) (pow-suc p k) ∙ power-mul K a (p ^ k) p))
-
   -- X^(p^k) = X makes u^(p^k) = u for every residue u = u(X)
   all-fixed : (k : ℕ) → power K x (p ^ k) ≡ x → (u : Residue p (suc n)) → power K u (p ^ k) ≡ u
   unfolding reduce
   all-fixed k e u =
       let value : evaluate K (u .0) x ≡ u = reduce-residue (prime .0) wt u in
-      ap (λ v. power K v (p ^ k)) (sym value) ∙ evaluate-power (u .0) x k ∙ ap (evaluate K (u .0)) e ∙ value
+      ap (λ v. power K v (p ^ k)) (sym value) ∙ evaluate-conjugate K prime (characteristic (prime .0) wt) (u .0) x k ∙ ap (evaluate K (u .0)) e ∙ value
 
   module _ (irreducible : HasDivisor p t → ⊥) where
     abbrev F : Field (Residue p (suc n))

@@ -6,7 +6,7 @@ ghost use Rattle.algebra.specs.Prime.{Prime};
 ghost use Rattle.array.specs.Array.{padded, Holds};
 ghost use Rattle.matrix.specs.Matrix.{Frobenius};
 ghost use Rattle.modular.specs.Barrett.{Reduces};
-ghost use Rattle.irreducible.specs.Rabin.{conjugate as conjugateOf, difference as differenceOf};
+ghost use Rattle.irreducible.specs.Rabin.{conjugateOfX, difference as differenceOf};
 use matrix::product::products;
 use modular::barrett::Barrett;
 use residue::difference::subtract;
@@ -17,7 +17,7 @@ pub fn conjugate(d: Barrett, n: usize, t: &[u64; 16], m: &[u64; 256], k: usize) 
     requires { ⌜ Prime (d .p) ⌝ }
     requires { ⌜ Reduces d × (1 ≤ n) × (n ≤ 16) ⌝ }
     requires { ⌜ Holds (d .p) n (now t) × Frobenius (d .p) n (take n (now t)) (now m) ⌝ }
-    ensures { λ r. ⌜ r ≡ padded (conjugateOf (d .p) (take n (now (t .entry))) k) ⌝ }
+    ensures { λ r. ⌜ r ≡ padded (conjugateOfX (d .p) (take n (now (t .entry))) k) ⌝ }
 {
     let mut u = residue_of_x(d.p, n, t);
     let mut i = 0;

@@ -11,7 +11,7 @@ ghost use Rattle.matrix.specs.Matrix.{Frobenius};
 ghost use Rattle.modular.specs.Barrett.{Reduces};
 ghost use Rattle.quotient.specs.DivisorTest.{hasDivisor};
 ghost use Rattle.quotient.specs.Residue.{residueOfX};
-ghost use Rattle.irreducible.specs.Rabin.{conjugate as conjugateOf, Passes};
+ghost use Rattle.irreducible.specs.Rabin.{conjugateOfX, Passes};
 use crate::conjugate::conjugate;
 use crate::conjugate::difference;
 use crate::inverse::has_inverse;
@@ -27,7 +27,7 @@ fn is_fixed(d: Barrett, n: usize, t: &[u64; 16], m: &[u64; 256]) -> bool
     requires { ⌜ Prime (d .p) ⌝ }
     requires { ⌜ Reduces d × (1 ≤ n) × (n ≤ 16) ⌝ }
     requires { ⌜ Holds (d .p) n (now t) × Frobenius (d .p) n (take n (now t)) (now m) ⌝ }
-    ensures { λ r. ⌜ r ≡ equal (conjugateOf (d .p) (take n (now (t .entry))) n) (residueOfX (d .p) (take n (now (t .entry)))) ⌝ }
+    ensures { λ r. ⌜ r ≡ equal (conjugateOfX (d .p) (take n (now (t .entry))) n) (residueOfX (d .p) (take n (now (t .entry)))) ⌝ }
 {
     let u = conjugate(d, n, t, m, n);
     is_x(d.p, n, t, &u)

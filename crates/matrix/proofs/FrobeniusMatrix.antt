@@ -1,13 +1,15 @@
--- The matrix whose columns are the powers of X^p is that of u ↦ u^p for a prime p, since u^p = u(X^p).
-use mathlib.Core.Path.{_≡_, sym, subst, _∙_}
+-- The matrix whose columns are the powers of X^p is that of u ↦ u^p for a prime p, since u^p = u(X^p). It takes the conjugate u^(p^k) to the next, u^(p^(k+1)).
+use mathlib.Core.Path.{_≡_, sym, ap, subst, _∙_}
 use mathlib.Core.List.{List}
-use Prim.Native.Nat.{ℕ, _≤_}
+use Prim.Native.Nat.{ℕ, _+_, _≤_}
+use native.Mathlib.Numerals.{add-one}
 use lib.ListN.{take}
 use Rattle.algebra.specs.Prime.{Prime}
 use Rattle.array.specs.Array.{padded, Holds, Square}
 use Rattle.array.specs.Words.{Words}
 use Rattle.array.proofs.Padded.{front-is, holds-is}
-use Rattle.quotient.specs.Residue.{power, residueOfX}
+use Rattle.quotient.specs.Residue.{power, conjugate, residueOfX}
+use Rattle.quotient.proofs.Conjugates.{conjugate-words, conjugate-power}
 use Rattle.quotient.proofs.Frobenius.{frobenius-substitutes}
 use Rattle.quotient.proofs.Operations.{power-words, residueOfX-words}
 use Rattle.matrix.specs.Matrix.{Powers, Frobenius, matrixProduct}
@@ -30,3 +32,13 @@ module _ (p n : ℕ) (t x : List ℕ) (big : 2 ≤ p) (ht : Holds p n t) (e : x 
 
   pub powers-frobenius : (m : List ℕ) → Powers p n (take n t) (take n x) m → Frobenius p n (take n t) m
   powers-frobenius m h = subst (λ s. Powers p n (take n t) s m) (front-is e (power-x-words big (ht .words))) h
+
+-- an array that holds the conjugate a^(p^k)
+module _ (p n : ℕ) (t a : List ℕ) (prime : Prime p) (ht : Holds p n t) (wa : Words p n a) (k : ℕ) (u : List ℕ) (e : u ≡ padded (conjugate p (take n t) a k)) where
+  pub conjugate-holds : Holds p n u
+  conjugate-holds = holds-is e (conjugate-words (prime .0) (ht .words) wa k)
+
+  pub conjugate-next : (m w : List ℕ) → Frobenius p n (take n t) m → w ≡ padded (matrixProduct p n m (take n u)) → w ≡ padded (conjugate p (take n t) a (k + 1))
+  conjugate-next m w h f =
+      let wk : Words p n (conjugate p (take n t) a k) = conjugate-words (prime .0) (ht .words) wa k in
+      f ∙ ap padded (ap (matrixProduct p n m) (front-is e wk) ∙ frobenius-applies prime (ht .words) h wk ∙ conjugate-power (prime .0) (ht .words) wa k ∙ ap (conjugate p (take n t) a) (sym (add-one k)))

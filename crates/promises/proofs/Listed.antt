@@ -14,7 +14,7 @@ use Rattle.roots.specs.Roots.{zeta, rootOfRatio, OrderModulo}
 use Rattle.galois.specs.Express.{express}
 use Rattle.finder.specs.Finder.{Findable, findS, findR, findOutputS, findOutputR}
 use Rattle.finder.proofs.ChosenPair.{zeta-found}
-use Rattle.finder.proofs.Construction.{root-independent}
+use Rattle.galois.proofs.RootIndependent.{root-independent}
 use Rattle.galois.proofs.Express.{express-is, express-unique}
 use Rattle.finder.proofs.Theorem.{demand-3}
 use Rattle.pair.specs.Pair.{Congruences, checkNumber}

@@ -17,4 +17,5 @@ pub mod Units
 pub mod Field
 pub mod FieldModulus
 pub mod Frobenius
+pub mod Conjugates
 pub mod Theorem

@@ -18,7 +18,7 @@ use Rattle.quotient.specs.Divisor.{HasDivisor}
 use Rattle.quotient.specs.DivisorTest.{hasDivisor}
 use Rattle.quotient.specs.Residue.{residueOfX, HasInverse}
 use Rattle.quotient.proofs.Decision.{test-has-divisor, test-irreducible}
-use Rattle.irreducible.specs.Rabin.{conjugate, difference, Passes, Rabin}
+use Rattle.irreducible.specs.Rabin.{conjugateOfX, difference, Passes, Rabin}
 use Rattle.irreducible.proofs.Criterion.{irreducible-rabin, rabin-irreducible}
 use Rattle.irreducible.proofs.rabin.Primes.{primes, prime-listed, listed-prime, divisor-small}
 
@@ -44,22 +44,22 @@ module _ (p n : ℕ) (t : List ℕ) (prime : Prime p) (some : 1 ≤ n) (short : 
   size = words-length (ht .words)
 
   -- where X^(p^n) is not X, T has a divisor
-  pub not-fixed : (b : Bool) → b ≡ equal (conjugate p T n) (residueOfX p T) → not b ≡ true → false ≡ not (hasDivisor p T)
+  pub not-fixed : (b : Bool) → b ≡ equal (conjugateOfX p T n) (residueOfX p T) → not b ≡ true → false ≡ not (hasDivisor p T)
   not-fixed b e f = by-test (hasDivisor p T) refl
     where
       by-test : (c : Bool) → hasDivisor p T ≡ c → false ≡ not (hasDivisor p T)
       by-test true g = sym (ap not g)
       by-test false g =
           let rabin : Rabin p T = rabin-of (ht .words) (test-irreducible (prime .0) (ht .words) g) in
-          let fixed : conjugate p T n ≡ residueOfX p T = ap (conjugate p T) (sym size) ∙ rabin .fixed in
+          let fixed : conjugateOfX p T n ≡ residueOfX p T = ap (conjugateOfX p T) (sym size) ∙ rabin .fixed in
           absurd (false≢true (sym (not-true b f) ∙ e ∙ equal-of fixed))
 
-  module _ (b : Bool) (e : b ≡ equal (conjugate p T n) (residueOfX p T)) (f : not b ≡ false) where
+  module _ (b : Bool) (e : b ≡ equal (conjugateOfX p T n) (residueOfX p T)) (f : not b ≡ false) where
     -- the primes up to 16 are enough
     rabin-passes : All (Passes p n T) primes → Rabin p T
     rabin-passes h =
         record {
-          fixed = ap (conjugate p T) size ∙ of-equal (conjugate p T n) (residueOfX p T) (sym e ∙ not-false b f);
+          fixed = ap (conjugateOfX p T) size ∙ of-equal (conjugateOfX p T n) (residueOfX p T) (sym e ∙ not-false b f);
           inverses = λ q prime-q divides.
               let here : n % q ≡ 0 = rw size at divides in
               subst (λ k. HasInverse p T (difference p T (k / q))) (sym size)

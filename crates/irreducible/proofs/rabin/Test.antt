@@ -16,20 +16,22 @@ use Rattle.algebra.proofs.Scan.{getD-member}
 use Rattle.array.specs.Array.{padded, Holds}
 use Rattle.array.proofs.Padded.{array-length, front-is, holds-is}
 use Rattle.quotient.specs.Residue.{residueOfX, HasInverse}
-use Rattle.irreducible.specs.Rabin.{conjugate, difference, Passes}
-use Rattle.irreducible.proofs.Conjugates.{conjugate-words, difference-words}
+use Rattle.irreducible.specs.Rabin.{conjugateOfX, difference, Passes}
+use Rattle.quotient.proofs.Conjugates.{conjugate-words}
+use Rattle.quotient.proofs.Operations.{residueOfX-words}
+use Rattle.irreducible.proofs.Differences.{difference-words}
 
 module _ (p n : ℕ) (t : List ℕ) (prime : Prime p) (short : n ≤ 16) (ht : Holds p n t) where
   abbrev T : List ℕ
   T = take n t
 
   -- X^(p^n)
-  module _ (k : ℕ) (u : List ℕ) (e : u ≡ padded (conjugate p T k)) where
+  module _ (k : ℕ) (u : List ℕ) (e : u ≡ padded (conjugateOfX p T k)) where
     pub conjugate-length : length u ≡ 16
-    conjugate-length = array-length n u short (holds-is e (conjugate-words (prime .0) (ht .words) k) .zeros)
+    conjugate-length = array-length n u short (holds-is e (conjugate-words (prime .0) (ht .words) (residueOfX-words (prime .0) (ht .words)) k) .zeros)
 
-    pub fixed-decides : (b : Bool) → b ≡ equal (take n u) (residueOfX p T) → b ≡ equal (conjugate p T k) (residueOfX p T)
-    fixed-decides b f = f ∙ ap (λ l. equal l (residueOfX p T)) (front-is e (conjugate-words (prime .0) (ht .words) k))
+    pub fixed-decides : (b : Bool) → b ≡ equal (take n u) (residueOfX p T) → b ≡ equal (conjugateOfX p T k) (residueOfX p T)
+    fixed-decides b f = f ∙ ap (λ l. equal l (residueOfX p T)) (front-is e (conjugate-words (prime .0) (ht .words) (residueOfX-words (prime .0) (ht .words)) k))
 
   -- X^(p^(n/q)) − X
   module _ (k : ℕ) (w : List ℕ) (e : w ≡ padded (difference p T k)) where

@@ -6,12 +6,12 @@ use lib.ListN.{take}
 use Prim.Native.Nat.{_-_, _≤_}
 use mathlib.Core.Path.{_≡_}
 use Rattle.array.specs.Array.{padded}
-use Rattle.irreducible.specs.Rabin.{conjugate as conjugateOf}
+use Rattle.irreducible.specs.Rabin.{conjugateOfX}
 use Rattle.matrix.proofs.FrobeniusMatrix.{frobenius-square}
-use Rattle.irreducible.proofs.conjugate.Iteration.{conjugate-starts, conjugate-holds, conjugate-next, conjugate-done}
+use Rattle.irreducible.proofs.conjugate.Iteration.{conjugate-starts, conjugate-of-x-holds, conjugate-of-x-next, conjugate-done}
 
 abbrev Inv-loop : tie.InvT-loop
-Inv-loop d n t m k u₀ i₀ u i = (i ≤ k) × (u ≡ padded (conjugateOf (d .p) (take n t) i))
+Inv-loop d n t m k u₀ i₀ u i = (i ≤ k) × (u ≡ padded (conjugateOfX (d .p) (take n t) i))
 
 abbrev μ-loop : tie.MeasureT-loop
 μ-loop d n t m k u₀ i₀ u i = k - i
@@ -23,7 +23,7 @@ loop-holds : tie.Need-loop-holds Inv-loop μ-loop
 loop-holds c = (search needs, search conjugate-starts)
 
 products-requires : tie.Need-products-requires Inv-loop μ-loop
-products-requires c κs = (search needs, (search frobenius-square, search conjugate-holds))
+products-requires c κs = (search needs, (search frobenius-square, search conjugate-of-x-holds))
 
 add-i : tie.Need-add-i Inv-loop μ-loop
 add-i c = search needs
@@ -32,7 +32,7 @@ loop-less : tie.Need-loop-less Inv-loop μ-loop
 loop-less c = search needs
 
 loop-again : tie.Need-loop-again Inv-loop μ-loop
-loop-again c = (search needs, search conjugate-next)
+loop-again c = (search needs, search conjugate-of-x-next)
 
 returns : tie.Need-returns Inv-loop μ-loop
 returns c = search conjugate-done
