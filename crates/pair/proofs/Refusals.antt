@@ -15,7 +15,8 @@ use Rattle.array.specs.Array.{padded, Holds}
 use Rattle.array.proofs.Padded.{holds-is, front-is}
 use Rattle.refusal.specs.Models.{Model}
 use Rattle.quotient.specs.DivisorTest.{hasDivisor}
-use borrow.Author.Tests.{not-true, not-false}
+use borrow.Author.Tests.{eqb-true, not-true, not-false}
+use lib.Dec.{eqb}
 use Rattle.pair.specs.Pair.{congruencesHold, refusePair, checkNumber, checkNumberOr}
 use Rattle.pair.proofs.Fields.{second-none}
 use Rattle.pair.specs.Theorem.{Given}
@@ -133,7 +134,7 @@ module _ (p n number : ℕ) (t1 t2 s r : List ℕ) (exact : Bool) (e : number �
     wrong-three g h = rw f (wrong .2 g h)
 
 -- where none applies, the output list is right, and the checker accepts
-pub none-of-output : (b : Bool) (p n : ℕ) (t1 t2 s r : List ℕ) → checkNumberOr b p n t1 t2 s r ≡ 0 → (b ≡ false) × (checkNumber p n t1 t2 s r ≡ 0)
+none-of-output : (b : Bool) (p n : ℕ) (t1 t2 s r : List ℕ) → checkNumberOr b p n t1 t2 s r ≡ 0 → (b ≡ false) × (checkNumber p n t1 t2 s r ≡ 0)
 unfolding checkNumberOr
 none-of-output false p n t1 t2 s r e = (refl, e)
 none-of-output true p n t1 t2 s r e = absurd (go (badPrime p) (badDegree n) e)
@@ -142,6 +143,13 @@ none-of-output true p n t1 t2 s r e = absurd (go (badPrime p) (badDegree n) e)
     go true b f = omega arith
     go false true f = omega arith
     go false false f = omega arith
+
+-- a call that also writes a list, which is to have m words
+pub accepted-output : (p n number m : ℕ) (t1 t2 s r out : List ℕ) → number ≡ checkNumberOr (not (eqb (length out) m)) p n t1 t2 s r → number ≡ 0
+    → (length out ≡ m) × (checkNumber p n t1 t2 s r ≡ 0)
+accepted-output p n number m t1 t2 s r out e h =
+    let (right, accepted) = none-of-output (not (eqb (length out) m)) p n t1 t2 s r (sym e ∙ h) in
+    (eqb-true (length out) m (not-false (eqb (length out) m) right), accepted)
 
 -- the arrays that hold the lists
 

@@ -1,15 +1,14 @@
 -- The call's number, and what the output list holds after it; m is the length that is asked for.
 use mathlib.Core.Path.{_≡_, sym, ap, _∙_}
-use mathlib.Core.Bool.{not, false}
+use mathlib.Core.Bool.{not}
 use mathlib.Core.List.{List}
 use Prim.Native.Nat.{ℕ}
-use borrow.Author.Tests.{eqb-true, not-false}
 use lib.Dec.{eqb}
 use lib.ListN.{length}
 use Rattle.refusal.proofs.Written.{output-new, output-old}
 use Rattle.pair.specs.Pair.{checkNumberOr}
 use Rattle.pair.specs.Theorem.{Given}
-use Rattle.pair.proofs.Refusals.{none-of-output}
+use Rattle.pair.proofs.Refusals.{accepted-output}
 use Rattle.pair.proofs.Theorem.{checker-theorem}
 use Rattle.sheet.specs.Sheet.{sheetText, sheetLength, sheetNumber, sheetOutput}
 
@@ -26,16 +25,11 @@ module _ (p n number m : ℕ) (t1 t2 s r out : List ℕ) (asked : m ≡ sheetLen
     pub zero-is : 0 ≡ sheetNumber p n t1 t2 s r out
     zero-is = sym h ∙ number-is
 
-    none : (not (eqb (length out) m) ≡ false) × Given p n t1 t2 s r
-    none =
-        let (right, accepted) = none-of-output (not (eqb (length out) m)) p n t1 t2 s r (sym e ∙ h) in
-        (right, checker-theorem p n t1 t2 s r .0 accepted .0)
-
     pub accepted-given : Given p n t1 t2 s r
-    accepted-given = none .1
+    accepted-given = checker-theorem p n t1 t2 s r .0 (accepted-output p n number m t1 t2 s r out e h .1) .0
 
     pub accepted-length : length out ≡ sheetLength n
-    accepted-length = eqb-true (length out) m (not-false (eqb (length out) m) (none .0)) ∙ asked
+    accepted-length = accepted-output p n number m t1 t2 s r out e h .0 ∙ asked
 
     pub new-output : (after : List ℕ) → after ≡ sheetText p n t1 t2 s r → after ≡ sheetOutput p n t1 t2 s r out
     unfolding sheetOutput
