@@ -2,6 +2,7 @@
 ghost use mathlib.Core.Path.{_≡_};
 ghost use Rattle.irreducible.specs.Irreducible.{irreducibleNumber};
 ghost use Rattle.finder.specs.Finder.{findNumber, findOutputS, findOutputR};
+ghost use Rattle.maps.specs.Maps.{mapsNumber, mapsOutput};
 ghost use Rattle.pair.specs.Pair.{checkNumber};
 ghost use Rattle.sheet.specs.Sheet.{sheetLength, sheetNumber, sheetOutput};
 ghost use Rattle.arithmetic.specs.Calls.{substituteNumber, substituteOutput, productNumber, productOutput, powerNumber, powerOutput};
@@ -29,6 +30,23 @@ pub extern "C" fn yokebean_check(
     ensures { λ k. ⌜ k ≡ checkNumber p n (now (t1 .entry)) (now (t2 .entry)) (now (s .entry)) (now (r .entry)) ⌝ }
 {
     pair::checker::check(p, n, t1, t2, s, r)
+}
+
+// out := all n polynomials S' with T1(S') = 0 modulo T2, from an accepted pair, in ascending order: 0, or 1, 2, 3, 4, 6, 7, 8.
+#[no_mangle]
+pub extern "C" fn yokebean_maps(
+    p: u32,
+    n: u32,
+    t1: &[Word],
+    t2: &[Word],
+    s: &[Word],
+    r: &[Word],
+    out: &mut [Word],
+) -> u32
+    ensures { λ k. ⌜ k ≡ mapsNumber p n (now (t1 .entry)) (now (t2 .entry)) (now (s .entry)) (now (r .entry)) (now (out .entry)) ⌝ }
+    ensures { λ k. ⌜ now (out .exit) ≡ mapsOutput p n (now (t1 .entry)) (now (t2 .entry)) (now (s .entry)) (now (r .entry)) (now (out .entry)) ⌝ }
+{
+    maps::call::maps(p, n, t1, t2, s, r, out)
 }
 
 // out := T1, T2, S and R printed on a sheet: 0, or 1, 2, 3, 4, 6, 7, 8.

@@ -1,7 +1,8 @@
--- The proofs of all promises, of the examples, the sheets and the reports.
+-- The proofs of all promises, of the examples, the sheets, the reports and the maps.
 mod Promises
 mod Examples
 mod SheetExamples
 mod LedgerExamples
+mod MapsExamples
 mod Listed
 mod Refused

@@ -6,6 +6,7 @@ use Rattle.finder.proofs.Theorem as Finder
 use Rattle.held.proofs.Theorem as Held
 use Rattle.irreducible.proofs.Theorem as Irreducible
 use Rattle.ledger.proofs.Theorem as Ledger
+use Rattle.maps.proofs.Theorem as Maps
 use Rattle.modular.proofs.IsPrime as Modular
 use Rattle.pair.proofs.Theorem as Pair
 use Rattle.quotient.proofs.Theorem as Quotient
@@ -16,6 +17,7 @@ use Rattle.text.proofs.ColumnDetermines as Columns
 use Rattle.promises.specs.Promises.{Promises}
 use Rattle.promises.proofs.Examples as Examples
 use Rattle.promises.proofs.LedgerExamples as LedgerExamples
+use Rattle.promises.proofs.MapsExamples as MapsExamples
 use Rattle.promises.proofs.SheetExamples as SheetExamples
 
 pub promises : Promises
@@ -60,6 +62,9 @@ promises =
       added-behind = Ledger.added-behind;
       report-determines = Ledger.report-determines;
       ledger-examples = LedgerExamples.ledger-examples;
+      every-map = Maps.maps-theorem;
+      maps-are-conjugates = Maps.maps-are-conjugates;
+      maps-examples = MapsExamples.maps-examples;
       values-follow = Values.values-follow;
       examples = Examples.examples;
     }

@@ -12,6 +12,7 @@ use Rattle.finder.specs.Theorem.{Demand3Theorem}
 use Rattle.modular.specs.Prime.{PrimeTestIsExact}
 use Rattle.irreducible.specs.Irreducible.{IrreducibleTheorem}
 use Rattle.irreducible.specs.Rabin.{RabinsCriterion}
+use Rattle.maps.specs.Theorem.{MapsTheorem, MapsAreConjugates}
 use Rattle.pair.specs.Theorem.{CheckerTheorem, CongruencesTheorem, DivisorsTogether, DegreeOne}
 use Rattle.quotient.specs.DivisorTest.{DivisorTestIsExact}
 use Rattle.quotient.specs.Theorem.{ResiduesAreARing, ModulusVanishes, ProductIsRemainder, SubstitutionIsSum, SubstitutionPreserves, ResiduesAreListed, FieldExactly, PowerOfUnit, IrreducibleDivisor, FrobeniusIsLinear}
@@ -22,6 +23,7 @@ use Rattle.sheet.specs.Theorem.{SheetHasLength, SheetDetermines}
 use Rattle.text.specs.Theorem.{DecimalIsDecimal, ColumnDetermines}
 use Rattle.promises.specs.Examples.{Examples}
 use Rattle.promises.specs.LedgerExamples.{LedgerExamples}
+use Rattle.promises.specs.MapsExamples.{MapsExamples}
 use Rattle.promises.specs.SheetExamples.{SheetExamples}
 
 pub record Promises : Type 0 where
@@ -82,6 +84,11 @@ pub record Promises : Type 0 where
   pub added-behind : AddedBehind
   pub report-determines : ReportDetermines
   pub ledger-examples : LedgerExamples
+  -- All the maps, request S-5 (maps/specs/Theorem.antt): from an accepted pair, the list of all S' with T1(S') = 0 modulo T2 has exactly n of them, in ascending order, each the S
+  -- of an accepted pair, and no accepted pair has another S; they are the conjugates of its S; those of example A computed (specs/MapsExamples.antt)
+  pub every-map : MapsTheorem
+  pub maps-are-conjugates : MapsAreConjugates
+  pub maps-examples : MapsExamples
   -- Over C (cvalue/specs/Theorem.antt): every list of calls makes of a new value one that is taken for the session that it makes of a new session
   pub values-follow : ValuesFollow
   -- Small fields by hand, A to I (specs/Examples.antt)

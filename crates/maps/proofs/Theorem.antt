@@ -1,0 +1,58 @@
+-- The proofs of what specs/Theorem.antt states. An S' of the list is the S of an accepted pair because u ↦ u(S') is injective on the p^n residues, hence onto: some R' has
+-- R'(S') = X modulo T2.
+use mathlib.Core.Path.{_≡_, sym, ap, subst, _∙_}
+use mathlib.Core.List.{List}
+use Prim.Native.Nat.{ℕ, zero, suc}
+use native.Mathlib.Omega.{arith}
+use lib.ListN.{length}
+use Rattle.algebra.specs.Lists.{Member}
+use Rattle.array.proofs.Words.{words-length}
+use Rattle.galois.specs.Express.{express}
+use Rattle.galois.proofs.Express.{express-is}
+use Rattle.galois.proofs.RootIndependent.{root-independent}
+use Rattle.pair.specs.Pair.{checkNumber}
+use Rattle.pair.specs.Theorem.{Given, Fields}
+use Rattle.pair.proofs.Theorem.{checker-theorem}
+use Rattle.pair.proofs.TwoCongruences.{two-congruences}
+use Rattle.quotient.specs.Residue.{constant, conjugate}
+use Rattle.maps.specs.Maps.{maps}
+use Rattle.maps.specs.Sorting.{sorted}
+use Rattle.maps.specs.Theorem.{MapsTheorem, MapsAreConjugates}
+use Rattle.maps.proofs.AllMaps.{maps-ascending, map-root, root-map, maps-sorted}
+use Rattle.maps.proofs.Insertion.{sorted-length, sorted-member, member-sorted}
+
+root-accepted : (p n : ℕ) (t1 t2 s r : List ℕ) → Given p n t1 t2 s r → Fields p n t1 t2 → (s' : List ℕ) → Member s' (maps p t1 t2)
+    → (r' : List ℕ) × (checkNumber p n t1 t2 s' r' ≡ 0)
+root-accepted p zero t1 t2 s r g fields s' m = absurd (omega (arith, g .models .degree .0))
+root-accepted p (suc n) t1 t2 s r g fields s' m =
+    let big = g .models .prime .0 in
+    let w1 = g .models .modulus1 in
+    let w2 = g .models .modulus2 in
+    let (ws, root) = map-root p t1 t2 w2 s' m in
+    let (wr, inverse) = express-is big w2 ws (root-independent (g .models .prime) w1 w2 (fields .no-divisor1) ws root) in (
+      express p t2 s',
+      checker-theorem p (suc n) t1 t2 s' (express p t2 s') .1 (record { models = g .models; words-s = ws; words-r = wr }) (fields .no-divisor1) (fields .no-divisor2)
+          (two-congruences big w1 w2 ws wr root inverse),
+    )
+
+accepted-root : (p n : ℕ) (t1 t2 s' r' : List ℕ) → checkNumber p n t1 t2 s' r' ≡ 0 → Member s' (maps p t1 t2)
+accepted-root p n t1 t2 s' r' accepted =
+    let (g, fields, c, iso) = checker-theorem p n t1 t2 s' r' .0 accepted in
+    root-map p t1 t2 (g .models .modulus2) s' (g .words-s) (c .root-of-t1 ∙ ap (λ k. constant k 0) (words-length (g .models .modulus2)))
+
+pub maps-theorem : MapsTheorem
+maps-theorem p n t1 t2 s r accepted =
+    let (g, fields, c, iso) = checker-theorem p n t1 t2 s r .0 accepted in
+    record {
+      count = ap length (maps-sorted p n t1 t2 s r accepted) ∙ sorted-length (conjugate p t2 s) n;
+      ascending = maps-ascending p t1 t2;
+      accepted = root-accepted p n t1 t2 s r g fields;
+      no-other = accepted-root p n t1 t2;
+    }
+
+pub maps-are-conjugates : MapsAreConjugates
+maps-are-conjugates p n t1 t2 s r s' accepted =
+    let same : maps p t1 t2 ≡ sorted (conjugate p t2 s) n = maps-sorted p n t1 t2 s r accepted in (
+      λ m. sorted-member (conjugate p t2 s) n s' (subst (Member s') same m),
+      λ (k, l, e). subst (Member s') (sym same) (subst (λ u. Member u (sorted (conjugate p t2 s) n)) (sym e) (member-sorted (conjugate p t2 s) n k l)),
+    )

@@ -1,0 +1,73 @@
+// The conjugates S, S^p, S^(p²), … modulo T, by one matrix of u ↦ u^p. Each is inserted into the list of those before it, which stays in ascending order.
+ghost use mathlib.Core.List.{flatten};
+ghost use mathlib.Core.Path.{_≡_};
+ghost use Prim.Native.Nat.{suc, _*_, _≤_, _<_};
+ghost use lib.ListN.{length, take};
+ghost use Rattle.algebra.specs.Prime.{Prime};
+ghost use Rattle.array.specs.Array.{Holds};
+ghost use Rattle.array.specs.Words.{Words, wordBound};
+ghost use Rattle.matrix.specs.Matrix.{Frobenius};
+ghost use Rattle.modular.specs.Barrett.{Reduces};
+ghost use Rattle.quotient.specs.Residue.{conjugate};
+ghost use Rattle.maps.specs.Sorting.{rows, insert as insertInto, sorted};
+use crate::order::exchange;
+use array::Word;
+use array::copy::load;
+use array::copy::store;
+use matrix::frobenius::frobenius;
+use matrix::product::products;
+use modular::barrett::Barrett;
+
+// Inserts u into the first k rows of out, which becomes k + 1: each row keeps the lower of itself and what is carried to it, and the highest is the last row.
+fn insert(n: usize, k: usize, u: &[u64; 16], out: &mut [Word])
+    requires { ⌜ (k < n) × (n ≤ 16) × (length (now out) ≡ n * n) ⌝ }
+    requires { ⌜ Holds wordBound n (now u) × Words wordBound (k * n) (take (k * n) (now out)) ⌝ }
+    ensures { λ _. ⌜ take (suc k * n) (now (out .exit)) ≡ flatten (insertInto (take n (now (u .entry))) (rows n k (now (out .entry)))) ⌝ }
+{
+    let mut carried = *u;
+    let mut j = 0;
+    while j < k {
+        let start = j * n;
+        exchange(n, &mut carried, &mut out[start..start + n]);
+        j += 1;
+    }
+    let start = k * n;
+    store(&carried, &mut out[start..start + n]);
+}
+
+// The n conjugates of S in ascending order.
+fn sorted_conjugates(
+    d: Barrett,
+    n: usize,
+    t: &[u64; 16],
+    m: &[u64; 256],
+    s: &[u64; 16],
+    out: &mut [Word],
+)
+    requires { ⌜ Prime (d .p) ⌝ }
+    requires { ⌜ Reduces d × (d .p ≤ wordBound) × (n ≤ 16) × (length (now out) ≡ n * n) ⌝ }
+    requires { ⌜ Holds (d .p) n (now t) × Frobenius (d .p) n (take n (now t)) (now m) × Holds (d .p) n (now s) ⌝ }
+    ensures { λ _. ⌜ now (out .exit) ≡ flatten (sorted (conjugate (d .p) (take n (now (t .entry))) (take n (now (s .entry)))) n) ⌝ }
+{
+    let mut u = *s;
+    let mut k = 0;
+    while k < n {
+        insert(n, k, &u, out);
+        u = products(d, n, n, m, &u);
+        k += 1;
+    }
+}
+
+// The same for lists of n words.
+pub fn write_conjugates(p: u32, n: u32, t: &[Word], s: &[Word], out: &mut [Word])
+    requires { ⌜ Prime p ⌝ }
+    requires { ⌜ (p ≤ wordBound) × (1 ≤ n) × (n ≤ 16) × (length (now out) ≡ n * n) ⌝ }
+    requires { ⌜ Words p n (now t) × Words p n (now s) ⌝ }
+    ensures { λ _. ⌜ now (out .exit) ≡ flatten (sorted (conjugate p (now (t .entry)) (now (s .entry))) n) ⌝ }
+{
+    let modulus = load(t);
+    let mut m = [0; 256];
+    frobenius(p as u64, n as usize, &modulus, &mut m);
+    let d = Barrett::new(p as u64);
+    sorted_conjugates(d, n as usize, &modulus, &m, &load(s), out);
+}
