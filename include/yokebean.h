@@ -56,6 +56,11 @@ uint32_t yokebean_irreducible(uint32_t p, uint32_t n, const uint16_t *t, size_t 
 uint32_t yokebean_check(uint32_t p, uint32_t n, const uint16_t *t1, size_t t1_len, const uint16_t *t2, size_t t2_len,
                         const uint16_t *s, size_t s_len, const uint16_t *r, size_t r_len);
 
+/* All the maps: from a pair that the checker accepts, writes the n polynomials S' with T1(S') = 0 mod T2 into out, each exactly once and as n
+ * words, in ascending order, where coefficients are compared from the highest power down. out has n*n words. 1, 2, 3, 4, 6, 7, 8. */
+uint32_t yokebean_maps(uint32_t p, uint32_t n, const uint16_t *t1, size_t t1_len, const uint16_t *t2, size_t t2_len,
+                       const uint16_t *s, size_t s_len, const uint16_t *r, size_t r_len, uint16_t *out, size_t out_len);
+
 /* The printed sheet of a pair that the checker accepts: T1, T2, S and R, each starting a line with its name in 3 columns; coefficients follow,
  * constant first, eight to a line, right-justified in 7 columns; continued lines begin with 3 blanks, and every line is filled with blanks to
  * 59 columns and ends with a newline. A word v prints as v if v is at most p/2 rounded down, else as v - p. ASCII, without a zero at the end.

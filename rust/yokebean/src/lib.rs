@@ -1,6 +1,6 @@
-//! Isomorphisms of finite fields: test a modulus, check a pair, find one, convert tables through it. Each function passes its slices on to the
-//! proved call of the same name in include/yokebean.h, which `rt staticlib capi` builds; none of them panics, and a refused call leaves every slice
-//! as it was.
+//! Isomorphisms of finite fields: test a modulus, check a pair, list all maps, find a pair, convert tables through it. Each function passes its
+//! slices on to the proved call of the same name in include/yokebean.h, which `rt staticlib capi` builds; none of them panics, and a refused call
+//! leaves every slice as it was.
 //!
 //! A model is a prime p up to 65,535, a degree n from 1 to 16 and a monic modulus of degree n; its n lower words are passed, constant first.
 //! A residue is n words below p, in the same order.
@@ -115,6 +115,37 @@ pub fn check(size: Size, t1: &[u16], t2: &[u16], s: &[u16], r: &[u16]) -> Result
     let Size { p, n } = size;
     let number =
         unsafe { raw::yokebean_check(p, n, t1.as_ptr(), t1.len(), t2.as_ptr(), t2.len(), s.as_ptr(), s.len(), r.as_ptr(), r.len()) };
+    answer(number, ())
+}
+
+/// All the maps: from a pair that the checker accepts, writes the n polynomials S' with T1(S') = 0 mod T2 into `out`, each exactly once and as n
+/// words, in ascending order, where coefficients are compared from the highest power down. `out` has n·n words. Refusals 1, 2, 3, 4, 6, 7, 8.
+///
+/// ```
+/// let size = yokebean::Size { p: 3, n: 2 };
+/// let mut out = [0; 4];
+/// yokebean::maps(size, &[1, 0], &[2, 1], &[1, 2], &[1, 2], &mut out)?;
+/// assert_eq!(out, [2, 1, 1, 2]); // 2 + X and 1 + 2X: modulo X² + X + 2 both have the square −1
+/// # Ok::<(), yokebean::Refusal>(())
+/// ```
+pub fn maps(size: Size, t1: &[u16], t2: &[u16], s: &[u16], r: &[u16], out: &mut [u16]) -> Result<(), Refusal> {
+    let Size { p, n } = size;
+    let number = unsafe {
+        raw::yokebean_maps(
+            p,
+            n,
+            t1.as_ptr(),
+            t1.len(),
+            t2.as_ptr(),
+            t2.len(),
+            s.as_ptr(),
+            s.len(),
+            r.as_ptr(),
+            r.len(),
+            out.as_mut_ptr(),
+            out.len(),
+        )
+    };
     answer(number, ())
 }
 

@@ -3,6 +3,7 @@
 pub mod cards;
 mod case;
 mod known;
+pub mod maps;
 pub mod moduli;
 pub mod pairs;
 pub mod program;
@@ -14,12 +15,13 @@ use std::collections::BTreeMap;
 use std::fmt::Debug;
 
 /// The numbers that a call can give. Each must have occurred with it.
-const NUMBERS: [(&str, &[u32]); 17] = [
+const NUMBERS: [(&str, &[u32]); 18] = [
     ("product", &[0, 1, 2, 3, 4]),
     ("power", &[0, 1, 2, 3, 4]),
     ("substitute", &[0, 1, 2, 3, 4]),
     ("irreducible", &[0, 1, 2, 3, 4, 6]),
     ("check", &[0, 1, 2, 3, 4, 6, 7, 8]),
+    ("maps", &[0, 1, 2, 3, 4, 6, 7, 8]),
     ("sheet", &[0, 1, 2, 3, 4, 6, 7, 8]),
     ("find", &[0, 1, 2, 3, 4, 5, 6, 7]),
     ("session_load", &[0, 23, 1, 2, 3, 4]),

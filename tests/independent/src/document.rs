@@ -1,11 +1,12 @@
 //! Document 01, and of document 02 the requests that have landed, in plain Rust: what the calls must answer, written from the documents and by other
 //! methods than the proved code's. Polynomials are multiplied out and divided with remainder; divisors are found by trial division, or by greatest
 //! common divisors where there are too many to try; the finder's values come from sums over conjugates (Lagrange resolvents), without solving linear
-//! systems; cards are strings of bits.
+//! systems; all maps of a pair are found by trying every residue, or are powers of S, sorted; cards are strings of bits.
 
 pub mod card;
 pub mod divisor;
 pub mod finder;
+pub mod maps;
 pub mod model;
 pub mod polynomial;
 pub mod session;

@@ -1,6 +1,6 @@
-//! Examples A to J of document 01, F as request S-3 has it, and the report and the sheet of A, on the independent implementation itself.
+//! Examples A to J of document 01, F as request S-3 has it, and the report, the sheet and the maps of A, on the independent implementation itself.
 
-use crate::document::{self, card, finder, is_prime, session::Session, sheet};
+use crate::document::{self, card, finder, is_prime, maps, session::Session, sheet};
 
 pub fn hold() {
     let pair = finder::pair(3, &[1, 0], &[2, 1]);
@@ -31,4 +31,5 @@ pub fn hold() {
     let (number, out) = sheet::sheet(3, 2, [&[1, 0], &[2, 1], &[1, 2], &[1, 2]], &[0; 240]);
     let lines: Vec<&str> = std::str::from_utf8(&out).unwrap().lines().collect();
     assert_eq!((number, lines[1]), (0, format!("T2      -1      1{}", " ".repeat(42)).as_str()));
+    assert_eq!(maps::maps(3, 2, [&[1, 0], &[2, 1], &[1, 2], &[1, 2]], &[0; 4]), (0, vec![2, 1, 1, 2]));
 }

@@ -14,6 +14,7 @@ fn main() {
     compare::residues::run(12_000 * factor, &mut tally);
     compare::moduli::run(6_000 * factor, &mut tally);
     compare::pairs::run(12_000 * factor, &mut tally);
+    compare::maps::run(1_000 * factor, &mut tally);
     compare::sheets::run(1_000 * factor, &mut tally);
     compare::cards::run(30_000 * factor, &mut tally);
     compare::sessions::run(60_000 * factor, &mut tally);

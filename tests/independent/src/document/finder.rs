@@ -28,15 +28,6 @@ fn zeta(p: u64, n: u64) -> u64 {
     (1..p).find(|&z| order(z) == n).unwrap()
 }
 
-/// u, u^p, …, n residues.
-fn conjugates(model: &Model, u: Residue) -> Vec<Residue> {
-    let mut list = vec![u];
-    while list.len() < model.modulus.len() {
-        list.push(model.power(list.last().unwrap(), model.p));
-    }
-    list
-}
-
 /// The sum of ζ^(−i·step) times the i-th conjugate.
 fn resolvent(model: &Model, zeta: u64, step: u64, conjugates: &[Residue]) -> Residue {
     let n = conjugates.len() as u64;
@@ -48,7 +39,7 @@ fn resolvent(model: &Model, zeta: u64, step: u64, conjugates: &[Residue]) -> Res
 fn alpha(model: &Model, zeta: u64) -> Residue {
     let mut start = model.constant(1);
     loop {
-        let vector = resolvent(model, zeta, 1, &conjugates(model, start.clone()));
+        let vector = resolvent(model, zeta, 1, &model.conjugates(start.clone()));
         if let Some(&lead) = vector.iter().find(|&&word| word != 0) {
             return model.scaled(power(model.p, lead.into(), model.p - 2), &vector);
         }
@@ -59,7 +50,7 @@ fn alpha(model: &Model, zeta: u64) -> Residue {
 /// The polynomial P of degree below n with P(α) = X: its i-th coefficient is the i-th resolvent of X, divided by n·α^i.
 fn express(model: &Model, zeta: u64, alpha: &[u16], a: u64) -> Residue {
     let n = model.modulus.len() as u64;
-    let conjugates = conjugates(model, model.x());
+    let conjugates = model.conjugates(model.x());
     let denominator = power(model.p, n * a % model.p, model.p - 2);
     let coefficient = |i: u64| {
         let quotient = model.product(&resolvent(model, zeta, i, &conjugates), &model.power(alpha, n - i));

@@ -66,6 +66,15 @@ impl<'a> Model<'a> {
         })
     }
 
+    /// u, u^p, …, n residues.
+    pub fn conjugates(&self, u: Residue) -> Vec<Residue> {
+        let mut list = vec![u];
+        while list.len() < self.modulus.len() {
+            list.push(self.power(list.last().unwrap(), self.p));
+        }
+        list
+    }
+
     /// f(S) for a polynomial f of any degree: the sum of its terms.
     pub fn substitute(&self, s: &[u16], f: &[u16]) -> Residue {
         let mut power = self.constant(1);
