@@ -7,6 +7,11 @@
 
 const peer *const peers[PEERS] = {&ours, &pari, &flint, &ntl, &plain, &plain_card};
 
+int does(const peer *who, int what, uint32_t n) {
+    const work *w = &who->works[what];
+    return w->run && (!w->most || n <= w->most);
+}
+
 static const row rows[] = {
     {"FIND", FIND, 3, 2},
     {"FIND", FIND, 7, 3},
@@ -20,6 +25,9 @@ static const row rows[] = {
     {"FIND", FIND, 65521, 16},
     {"CHECK", CHECK, 7, 3},
     {"CHECK", CHECK, 65521, 16},
+    {"MAPS", MAPS, 7, 3},
+    {"MAPS", MAPS, 65521, 4},
+    {"MAPS", MAPS, 65521, 16},
     {"IRREDUCIBLE", IRREDUCIBLE, 3, 2},
     {"IRREDUCIBLE", IRREDUCIBLE, 7, 3},
     {"IRREDUCIBLE", IRREDUCIBLE, 251, 10},

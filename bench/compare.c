@@ -7,8 +7,8 @@
 #include <stdlib.h>
 #include <string.h>
 
-static const char *const names[WORKS] = {"FIND",       "CHECK",       "IRREDUCIBLE",  "CONVERT", "product", "power",
-                                         "substitute", "read a card", "write a card", "power",   "power"};
+static const char *const names[WORKS] = {"FIND",       "CHECK",       "IRREDUCIBLE",  "MAPS",  "CONVERT", "product", "power",
+                                         "substitute", "read a card", "write a card", "power", "power"};
 
 static void fail(const inputs *in, int what, size_t k, const char *why, ...) {
     va_list rest;
@@ -18,6 +18,22 @@ static void fail(const inputs *in, int what, size_t k, const char *why, ...) {
     fprintf(stderr, "\n");
     va_end(rest);
     exit(1);
+}
+
+static uint32_t degree;
+
+static int from_the_top(const void *left, const void *right) {
+    const uint16_t *u = left, *v = right;
+    for (uint32_t i = degree; i-- > 0;)
+        if (u[i] != v[i])
+            return u[i] < v[i] ? -1 : 1;
+    return 0;
+}
+
+size_t sorted(uint32_t n, size_t residues, uint16_t *words) {
+    degree = n;
+    qsort(words, residues, n * sizeof *words, from_the_top);
+    return residues * n;
 }
 
 static size_t answer(const inputs *in, const peer *who, int what, size_t k, uint16_t *out) {
@@ -31,7 +47,7 @@ static size_t answer(const inputs *in, const peer *who, int what, size_t k, uint
 /* Everyone must answer `right`, 1 or 0, to all jobs; `maker` is who or what made them. */
 static void judge(const inputs *in, int what, uint16_t right, const char *maker) {
     for (size_t i = 0; i < PEERS; i++)
-        if (peers[i]->works[what].run) {
+        if (does(peers[i], what, in->n)) {
             peers[i]->prepare(in);
             for (size_t k = 0; k < in->jobs; k++) {
                 uint16_t given;
@@ -45,7 +61,7 @@ static void judge(const inputs *in, int what, uint16_t right, const char *maker)
 static void compare_found(const inputs *in) {
     static inputs found;
     for (size_t i = 0; i < PEERS; i++)
-        if (peers[i]->works[FIND].run) {
+        if (does(peers[i], FIND, in->n)) {
             found = *in;
             peers[i]->prepare(in);
             for (size_t k = 0; k < in->jobs; k++) {
@@ -84,7 +100,7 @@ static void compare_words(const inputs *in, int what) {
     static uint16_t own[LARGEST_TABLE], other[LARGEST_TABLE];
     ours.prepare(in);
     for (size_t i = 1; i < PEERS; i++)
-        if (peers[i]->works[what].run) {
+        if (does(peers[i], what, in->n)) {
             peers[i]->prepare(in);
             for (size_t k = 0; k < in->jobs; k++) {
                 size_t count = answer(in, &ours, what, k, own);
@@ -101,6 +117,6 @@ void compare(const inputs *in) {
     compare_found(in);
     compare_refused(in);
     compare_moduli(in);
-    for (int what = CONVERT; what < WORKS; what++)
+    for (int what = MAPS; what < WORKS; what++)
         compare_words(in, what);
 }

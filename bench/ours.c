@@ -7,7 +7,7 @@ static const inputs *in;
 static uint32_t p, n, number;
 static yokebean_session session[MOST_JOBS];
 static yokebean_card card;
-static uint16_t value[2 * LARGEST_DEGREE], image[LARGEST_TABLE], words[CARD_WORDS];
+static uint16_t value[2 * LARGEST_DEGREE], list[LARGEST_DEGREE * LARGEST_DEGREE], image[LARGEST_TABLE], words[CARD_WORDS];
 static uint8_t bytes[LARGEST_CARD];
 
 static void prepare(const inputs *given) {
@@ -30,6 +30,11 @@ static void check(size_t k) {
 }
 
 static void irreducible(size_t k) { number = yokebean_irreducible(p, n, in->job[k].t1, n); }
+
+static void maps(size_t k) {
+    const job *j = &in->job[k];
+    number = yokebean_maps(p, n, j->t1, n, j->t2, n, j->s, n, j->r, n, list, n * n);
+}
 
 static void convert(size_t k) { number = yokebean_session_forward(session[k], in->table, in->words, image, in->words).number; }
 
@@ -59,8 +64,8 @@ static void read_card(size_t k) {
 
 static void write_card(size_t k) { number = yokebean_card_write(p, n, 2, in->job[k].coefficients, 4 * n, bytes, in->card_length); }
 
-static size_t given(const uint16_t *list, size_t count, uint16_t *out) {
-    memcpy(out, list, count * sizeof *out);
+static size_t given(const uint16_t *from, size_t count, uint16_t *out) {
+    memcpy(out, from, count * sizeof *out);
     return number ? 0 : count;
 }
 
@@ -71,6 +76,7 @@ static size_t accepted(uint16_t *out) {
 
 static size_t pair(uint16_t *out) { return given(value, 2 * n, out); }
 static size_t residue(uint16_t *out) { return given(value, n, out); }
+static size_t residues(uint16_t *out) { return given(list, n * n, out); }
 static size_t table(uint16_t *out) { return given(image, in->words, out); }
 
 static size_t card_read(uint16_t *out) {
@@ -85,7 +91,7 @@ static size_t card_written(uint16_t *out) {
 }
 
 const peer ours = {"ours", prepare, {
-    [FIND] = {find, pair}, [CHECK] = {check, accepted}, [IRREDUCIBLE] = {irreducible, accepted}, [CONVERT] = {convert, table},
-    [PRODUCT] = {product, residue}, [POWER] = {power, residue}, [SUBSTITUTE] = {substitute, residue}, [READ] = {read_card, card_read},
-    [WRITE] = {write_card, card_written}, [LONG] = {long_power, residue}, [SHORT] = {short_power, residue},
+    [FIND] = {find, pair}, [CHECK] = {check, accepted}, [IRREDUCIBLE] = {irreducible, accepted}, [MAPS] = {maps, residues},
+    [CONVERT] = {convert, table}, [PRODUCT] = {product, residue}, [POWER] = {power, residue}, [SUBSTITUTE] = {substitute, residue},
+    [READ] = {read_card, card_read}, [WRITE] = {write_card, card_written}, [LONG] = {long_power, residue}, [SHORT] = {short_power, residue},
 }};

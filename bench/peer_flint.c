@@ -1,21 +1,28 @@
 /* FLINT: for each work the call that is fastest at its size, which from degree 8 is the one with a prepared inverse; a table is converted by
  * nmod_mat_mul, the table times the matrix of the powers of S; a modulus is tested by FLINT's default, the degrees of its factors, and at the
- * smallest sizes by Rabin's test. */
+ * smallest sizes by Rabin's test; the maps are the roots of T1 in the field of T2, by fq_nmod_poly_roots, which takes 0.5 ms in degree 4 and
+ * 70 ms in degree 16. */
 #include "peers.h"
+#include <flint/fq_nmod_poly.h>
+#include <flint/fq_nmod_poly_factor.h>
 #include <flint/nmod_mat.h>
 #include <flint/nmod_poly.h>
 #include <flint/nmod_poly_factor.h>
 
-enum { PREPARED_FROM = 8 /* n */, RABIN_BELOW = 22 /* p·n */ };
+enum { PREPARED_FROM = 8 /* n */, RABIN_BELOW = 22 /* p·n */, ROOTS_UP_TO = 4 /* n */ };
 
 typedef struct {
     nmod_poly_t t1, t2, inverse1, inverse2, s, r, u, v, x1, x2;
     nmod_mat_t powers;
+    fq_nmod_ctx_t field;
+    fq_nmod_poly_t t1_over_field;
+    fq_nmod_poly_factor_t roots;
 } forms;
 
 static forms form[MOST_JOBS];
 static nmod_mat_t table, image;
 static nmod_poly_t value;
+static const forms *solved;
 static int right;
 static uint32_t p, n;
 static size_t jobs;
@@ -50,11 +57,18 @@ static void set_powers(forms *f) {
     }
 }
 
+static void set_field(forms *f) {
+    fq_nmod_ctx_init_modulus(f->field, f->t2, "X");
+    fq_nmod_poly_init(f->t1_over_field, f->field), fq_nmod_poly_factor_init(f->roots, f->field);
+    fq_nmod_poly_set_nmod_poly(f->t1_over_field, f->t1, f->field);
+}
+
 static void clear(void) {
     for (forms *f = form; f < form + jobs; f++) {
         nmod_poly_clear(f->t1), nmod_poly_clear(f->t2), nmod_poly_clear(f->inverse1), nmod_poly_clear(f->inverse2);
         nmod_poly_clear(f->s), nmod_poly_clear(f->r), nmod_poly_clear(f->u), nmod_poly_clear(f->v);
         nmod_poly_clear(f->x1), nmod_poly_clear(f->x2), nmod_mat_clear(f->powers);
+        fq_nmod_poly_clear(f->t1_over_field, f->field), fq_nmod_poly_factor_clear(f->roots, f->field), fq_nmod_ctx_clear(f->field);
     }
     if (jobs)
         nmod_mat_clear(table), nmod_mat_clear(image), nmod_poly_clear(value);
@@ -72,6 +86,7 @@ static void prepare(const inputs *in) {
         set_inverse(f->inverse1, f->t1), set_inverse(f->inverse2, f->t2);
         set_residue_of_x(f->x1, f->t1), set_residue_of_x(f->x2, f->t2);
         set_powers(f);
+        set_field(f);
     }
     slong groups = (slong)(in->words / n);
     nmod_mat_init(table, groups, n, p), nmod_mat_init(image, groups, n, p);
@@ -105,6 +120,12 @@ static void check(size_t k) {
     right &= nmod_poly_equal(value, f->x2);
 }
 
+static void maps(size_t k) {
+    forms *f = &form[k];
+    fq_nmod_poly_roots(f->roots, f->t1_over_field, 0, f->field);
+    solved = f;
+}
+
 static void convert(size_t k) { nmod_mat_mul(image, table, form[k].powers); }
 
 static void product(size_t k) {
@@ -131,6 +152,21 @@ static size_t residue(uint16_t *out) {
     return n;
 }
 
+/* A root is given as a factor, X less the root. */
+static size_t residues(uint16_t *out) {
+    const fq_nmod_poly_factor_struct *all = solved->roots;
+    fq_nmod_t root;
+    fq_nmod_init(root, solved->field);
+    for (slong k = 0; k < all->num; k++) {
+        fq_nmod_poly_get_coeff(root, all->poly + k, 0, solved->field);
+        fq_nmod_neg(root, root, solved->field);
+        for (slong i = 0; i < n; i++)
+            out[k * n + i] = (uint16_t)nmod_poly_get_coeff_ui(root, i);
+    }
+    fq_nmod_clear(root, solved->field);
+    return sorted(n, (size_t)all->num, out);
+}
+
 static size_t converted(uint16_t *out) {
     for (slong g = 0; g < image->r; g++)
         for (slong i = 0; i < n; i++)
@@ -144,6 +180,6 @@ static size_t accepted(uint16_t *out) {
 }
 
 const peer flint = {"FLINT", prepare, {
-    [CHECK] = {check, accepted}, [IRREDUCIBLE] = {irreducible, accepted}, [CONVERT] = {convert, converted}, [PRODUCT] = {product, residue},
-    [POWER] = {power, residue}, [SUBSTITUTE] = {substitute, residue},
+    [CHECK] = {check, accepted}, [IRREDUCIBLE] = {irreducible, accepted}, [MAPS] = {maps, residues, ROOTS_UP_TO},
+    [CONVERT] = {convert, converted}, [PRODUCT] = {product, residue}, [POWER] = {power, residue}, [SUBSTITUTE] = {substitute, residue},
 }};

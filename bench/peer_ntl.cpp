@@ -1,6 +1,8 @@
 // NTL: CompMod substitutes modulo a prepared modulus; a table is converted by mul, the table times the matrix of the powers of S; IterIrredTest
-// is the faster of the two tests that do not err.
+// is the faster of the two tests that do not err; the maps are the roots of T1 in the field of T2, by FindRoots, which takes 0.5 ms in degree 4
+// and 190 ms in degree 16.
 #include "peers.h"
+#include <NTL/lzz_pEXFactoring.h>
 #include <NTL/lzz_pX.h>
 #include <NTL/lzz_pXFactoring.h>
 #include <NTL/mat_lzz_p.h>
@@ -9,10 +11,14 @@ using namespace NTL;
 
 namespace {
 
+enum { ROOTS_UP_TO = 4 /* n */ };
+
 struct Forms {
     zz_pX t1, t2, s, r, u, v, x1, x2;
     zz_pXModulus modulus1, modulus2;
     mat_zz_p powers;
+    zz_pEContext field;
+    zz_pEX t1_over_field;
 };
 
 // All that depends on p, made anew for each p.
@@ -20,6 +26,7 @@ struct Prepared {
     Forms form[MOST_JOBS];
     mat_zz_p table, image;
     zz_pX value;
+    vec_zz_pE roots;
     bool right;
     long n;
 };
@@ -62,6 +69,9 @@ void prepare(const inputs *in) {
         build(f.modulus1, f.t1), build(f.modulus2, f.t2);
         rem(f.x1, x, f.modulus1), rem(f.x2, x, f.modulus2);
         f.powers = powers_of(f.s, f.modulus2);
+        f.field = zz_pEContext(f.t2);
+        f.field.restore();
+        conv(f.t1_over_field, f.t1);
     }
     prepared->table.SetDims(groups, n);
     for (long g = 0; g < groups; g++)
@@ -90,6 +100,12 @@ void check(size_t k) {
     prepared->right = right && value == f.x2;
 }
 
+void maps(size_t k) {
+    const Forms &f = prepared->form[k];
+    f.field.restore();
+    FindRoots(prepared->roots, f.t1_over_field);
+}
+
 void convert(size_t k) { mul(prepared->image, prepared->table, prepared->form[k].powers); }
 
 void product(size_t k) {
@@ -110,6 +126,14 @@ size_t residue(uint16_t *out) {
     return size_t(prepared->n);
 }
 
+size_t residues(uint16_t *out) {
+    long n = prepared->n, count = prepared->roots.length();
+    for (long k = 0; k < count; k++)
+        for (long i = 0; i < n; i++)
+            out[k * n + i] = uint16_t(rep(coeff(rep(prepared->roots[k]), i)));
+    return sorted(uint32_t(n), size_t(count), out);
+}
+
 size_t converted(uint16_t *out) {
     long n = prepared->n, groups = prepared->image.NumRows();
     for (long g = 0; g < groups; g++)
@@ -128,7 +152,7 @@ const work none = {nullptr, nullptr};
 }
 
 extern "C" const peer ntl = {"NTL", prepare, {
-    /* FIND */ none, /* CHECK */ {check, accepted}, /* IRREDUCIBLE */ {irreducible, accepted}, /* CONVERT */ {convert, converted},
-    /* PRODUCT */ {product, residue}, /* POWER */ {power, residue}, /* SUBSTITUTE */ {substitute, residue},
+    /* FIND */ none, /* CHECK */ {check, accepted}, /* IRREDUCIBLE */ {irreducible, accepted}, /* MAPS */ {maps, residues, ROOTS_UP_TO},
+    /* CONVERT */ {convert, converted}, /* PRODUCT */ {product, residue}, /* POWER */ {power, residue}, /* SUBSTITUTE */ {substitute, residue},
     /* READ */ none, /* WRITE */ none, /* LONG */ none, /* SHORT */ none,
 }};

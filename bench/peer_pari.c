@@ -1,6 +1,6 @@
 /* PARI: Flx_ffisom finds an isomorphism, Flxq_ffisom_inv its inverse; Flx_Flxq_eval substitutes; Flx_is_irred tests a modulus as
- * polisirreducible does, by the degrees of its factors, but without conversions. Its prepared form of a modulus of these degrees is the modulus
- * itself. */
+ * polisirreducible does, by the degrees of its factors, and Flx_rootsff finds the roots of T1 in the field of T2 as polrootsmod does, both without
+ * conversions. Its prepared form of a modulus of these degrees is the modulus itself. */
 #include "peers.h"
 #include <pari/pari.h>
 
@@ -68,6 +68,11 @@ static void check(size_t k) {
             && Flx_equal(Flx_Flxq_eval(r[k], s[k], t2[k], p), Flx_rem(x, t2[k], p));
 }
 
+static void maps(size_t k) {
+    set_avma(prepared);
+    value = Flx_rootsff(t1[k], t2[k], p);
+}
+
 static void product(size_t k) {
     set_avma(prepared);
     value = Flxq_mul(u[k], v[k], t2[k], p);
@@ -98,12 +103,19 @@ static size_t pair(uint16_t *out) {
     return 2 * n;
 }
 
+static size_t residues(uint16_t *out) {
+    size_t count = lg(value) - 1;
+    for (size_t i = 0; i < count; i++)
+        list(gel(value, i + 1), out + i * n);
+    return sorted(n, count, out);
+}
+
 static size_t accepted(uint16_t *out) {
     *out = (uint16_t)right;
     return 1;
 }
 
 const peer pari = {"PARI", prepare, {
-    [FIND] = {find, pair}, [CHECK] = {check, accepted}, [IRREDUCIBLE] = {irreducible, accepted}, [PRODUCT] = {product, residue},
-    [POWER] = {power, residue}, [SUBSTITUTE] = {substitute, residue},
+    [FIND] = {find, pair}, [CHECK] = {check, accepted}, [IRREDUCIBLE] = {irreducible, accepted}, [MAPS] = {maps, residues},
+    [PRODUCT] = {product, residue}, [POWER] = {power, residue}, [SUBSTITUTE] = {substitute, residue},
 }};

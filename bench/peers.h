@@ -34,6 +34,7 @@ typedef struct {
  *   FIND         a pair: S, then R
  *   CHECK        whether T1 and T2 are irreducible and the four congruences hold: 1 or 0
  *   IRREDUCIBLE  whether T1 is irreducible: 1 or 0
+ *   MAPS         the n residues S' modulo T2 with T1(S') = 0, in ascending order
  *   CONVERT      the table's image
  *   PRODUCT      u·v modulo T2
  *   POWER        u^EXPONENT modulo T2
@@ -42,14 +43,16 @@ typedef struct {
  *   WRITE        the bytes of a card
  *   LONG         u^(2^60) modulo T2
  *   SHORT        u^(2^12) modulo T2, which takes BETWEEN products fewer */
-enum { FIND, CHECK, IRREDUCIBLE, CONVERT, PRODUCT, POWER, SUBSTITUTE, READ, WRITE, LONG, SHORT, WORKS };
+enum { FIND, CHECK, IRREDUCIBLE, MAPS, CONVERT, PRODUCT, POWER, SUBSTITUTE, READ, WRITE, LONG, SHORT, WORKS };
 enum { BETWEEN = 60 - 12 };
 
 /* `run` does the work of the k-th job and keeps the answer in the peer's own form, where the compiler cannot tell that nobody reads it;
- * `answer` writes that answer as words and gives their number, 0 if there is none. Both are null where a peer lacks the work. */
+ * `answer` writes that answer as words and gives their number, 0 if there is none. Both are null where a peer lacks the work. `most`, where it
+ * is not 0, is the highest degree in which the peer takes part; in higher ones it takes too long. */
 typedef struct {
     void (*run)(size_t k);
     size_t (*answer)(uint16_t *words);
+    uint32_t most;
 } work;
 
 typedef struct {
@@ -62,6 +65,9 @@ extern const peer ours, pari, flint, ntl, plain, plain_card;
 
 /* PARI's test of X^n + t. */
 int is_irreducible(uint32_t p, uint32_t n, const uint16_t *t);
+
+/* Puts residues of n words in ascending order, compared from the highest power down, and gives the number of their words. */
+size_t sorted(uint32_t n, size_t residues, uint16_t *words);
 
 #ifdef __cplusplus
 }

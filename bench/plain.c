@@ -1,5 +1,6 @@
 /* Plain C: the product by Horner's rule on u64, the top word reduced in each step and all words at the end; power and substitution by such
- * products; the conversion of a table by the matrix of the powers of S, with sums of products in a u64 and one division for each word. */
+ * products; the conversion of a table by the matrix of the powers of S, with sums of products in a u64 and one division for each word; the maps as
+ * the conjugates of S, each from the one before by the matrix of the powers of X^p, sorted, without a test of the pair. */
 #include "peers.h"
 #include <string.h>
 
@@ -11,7 +12,7 @@ static uint64_t p;
 static size_t n, words;
 static forms form[MOST_JOBS];
 static uint64_t value[LARGEST_DEGREE];
-static uint16_t table[LARGEST_TABLE], image[LARGEST_TABLE];
+static uint16_t list[LARGEST_DEGREE * LARGEST_DEGREE], table[LARGEST_TABLE], image[LARGEST_TABLE];
 
 static void multiply(const uint64_t *t, const uint64_t *u, const uint64_t *v, uint64_t *out) {
     uint64_t w[LARGEST_DEGREE] = {0};
@@ -23,6 +24,14 @@ static void multiply(const uint64_t *t, const uint64_t *u, const uint64_t *v, ui
     }
     for (size_t i = 0; i < n; i++)
         out[i] = w[i] % p;
+}
+
+/* Row i becomes s^i. */
+static void set_powers(const uint64_t *t, const uint64_t *s, uint64_t rows[][LARGEST_DEGREE]) {
+    memset(rows[0], 0, sizeof rows[0]);
+    rows[0][0] = 1;
+    for (size_t i = 1; i < n; i++)
+        multiply(t, rows[i - 1], s, rows[i]);
 }
 
 static void widen(const uint16_t *from, uint64_t *to) {
@@ -38,27 +47,25 @@ static void prepare(const inputs *in) {
         const job *j = &in->job[k];
         forms *f = &form[k];
         widen(j->t2, f->t2), widen(j->s, f->s), widen(j->u, f->u), widen(j->v, f->v);
-        f->powers[0][0] = 1;
-        for (size_t i = 1; i < n; i++)
-            multiply(f->t2, f->powers[i - 1], f->s, f->powers[i]);
+        set_powers(f->t2, f->s, f->powers);
     }
 }
 
 static void product(size_t k) { multiply(form[k].t2, form[k].u, form[k].v, value); }
 
-static void raise(size_t k, uint64_t exponent) {
-    const forms *f = &form[k];
-    memcpy(value, f->u, sizeof value);
+/* value := u^exponent modulo t. */
+static void raise(const uint64_t *t, const uint64_t *u, uint64_t exponent) {
+    memcpy(value, u, sizeof value);
     for (int bit = 62 - __builtin_clzll(exponent); bit >= 0; bit--) {
-        multiply(f->t2, value, value, value);
+        multiply(t, value, value, value);
         if (exponent >> bit & 1)
-            multiply(f->t2, value, f->u, value);
+            multiply(t, value, u, value);
     }
 }
 
-static void power(size_t k) { raise(k, EXPONENT); }
-static void long_power(size_t k) { raise(k, 1ull << 60); }
-static void short_power(size_t k) { raise(k, 1ull << 12); }
+static void power(size_t k) { raise(form[k].t2, form[k].u, EXPONENT); }
+static void long_power(size_t k) { raise(form[k].t2, form[k].u, 1ull << 60); }
+static void short_power(size_t k) { raise(form[k].t2, form[k].u, 1ull << 12); }
 
 static void substitute(size_t k) {
     const forms *f = &form[k];
@@ -66,6 +73,42 @@ static void substitute(size_t k) {
     for (size_t i = n; i-- > 0;) {
         multiply(f->t2, value, f->s, value);
         value[0] = (value[0] + f->u[i]) % p;
+    }
+}
+
+static int lower(const uint16_t *u, const uint16_t *v) {
+    for (size_t i = n; i-- > 0;)
+        if (u[i] != v[i])
+            return u[i] < v[i];
+    return 0;
+}
+
+/* Inserts value into the first k residues of the list, which are in ascending order. */
+static void insert(size_t k) {
+    uint16_t u[LARGEST_DEGREE];
+    for (size_t i = 0; i < n; i++)
+        u[i] = (uint16_t)value[i];
+    for (; k > 0 && lower(u, list + (k - 1) * n); k--)
+        memcpy(list + k * n, list + (k - 1) * n, n * sizeof *list);
+    memcpy(list + k * n, u, n * sizeof *list);
+}
+
+static void maps(size_t k) {
+    static const uint64_t x[LARGEST_DEGREE] = {0, 1};
+    const forms *f = &form[k];
+    uint64_t frobenius[LARGEST_DEGREE][LARGEST_DEGREE], next[LARGEST_DEGREE];
+    raise(f->t2, x, p);
+    set_powers(f->t2, value, frobenius);
+    memcpy(value, f->s, sizeof value);
+    for (size_t i = 0; i < n; i++) {
+        insert(i);
+        for (size_t j = 0; j < n; j++) {
+            next[j] = 0;
+            for (size_t m = 0; m < n; m++)
+                next[j] += frobenius[m][j] * value[m];
+        }
+        for (size_t j = 0; j < n; j++)
+            value[j] = next[j] % p;
     }
 }
 
@@ -86,12 +129,17 @@ static size_t residue(uint16_t *out) {
     return n;
 }
 
+static size_t residues(uint16_t *out) {
+    memcpy(out, list, n * n * sizeof *out);
+    return n * n;
+}
+
 static size_t converted(uint16_t *out) {
     memcpy(out, image, words * sizeof *out);
     return words;
 }
 
 const peer plain = {"plain C", prepare, {
-    [CONVERT] = {convert, converted}, [PRODUCT] = {product, residue}, [POWER] = {power, residue}, [SUBSTITUTE] = {substitute, residue},
-    [LONG] = {long_power, residue}, [SHORT] = {short_power, residue},
+    [MAPS] = {maps, residues}, [CONVERT] = {convert, converted}, [PRODUCT] = {product, residue}, [POWER] = {power, residue},
+    [SUBSTITUTE] = {substitute, residue}, [LONG] = {long_power, residue}, [SHORT] = {short_power, residue},
 }};

@@ -22,6 +22,9 @@ typedef struct {
 enum { PEERS = 6 };
 extern const peer *const peers[PEERS];
 
+/* Whether a peer does a work in degree n. */
+int does(const peer *, int what, uint32_t n);
+
 void choose(const row *, inputs *);
 void choose_reducible(const inputs *, inputs *);
 void compare(const inputs *);

@@ -13,7 +13,7 @@ static int show(char *out, size_t length, const times *t) {
 }
 
 static void show_ratio(char *out, size_t length, double ratio) {
-    snprintf(out, length, " **%.*f**", ratio < 0.1 ? 3 : ratio < 10 ? 2 : 1, ratio);
+    snprintf(out, length, " **%.*f**", ratio < 0.01 ? 4 : ratio < 0.1 ? 3 : ratio < 10 ? 2 : 1, ratio);
 }
 
 void print_header(void) {

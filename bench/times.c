@@ -52,7 +52,7 @@ size_t time_row(const row *which, const inputs *in, times *out) {
     for (size_t i = 0; i < PEERS; i++) {
         int what = peers[i] == &ours && which->inside ? LONG : which->work;
         peers[i]->prepare(in);
-        if (peers[i]->works[what].run) {
+        if (does(peers[i], what, in->n)) {
             out[count].name = peers[i]->name;
             all[count++].run = peers[i]->works[what].run;
         }
