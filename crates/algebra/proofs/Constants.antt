@@ -4,8 +4,6 @@
 use mathlib.Core.Path.{_≡_, sym, ap, _∙_}
 use mathlib.Core.List.{List, _∷_, map}
 use Prim.Native.Nat.{ℕ, zero, suc, _+_, _-_, _*_, _≤_, _<_}
-use native.Mathlib.Nat.{le-dest}
-use native.Mathlib.Decide.{decLe}
 use native.Mathlib.Omega.{arith}
 use lib.ListN.{length, length-map}
 use Rattle.algebra.specs.Lists.{Member, Distinct, range}
@@ -18,6 +16,7 @@ use Rattle.algebra.proofs.Counting.{member?}
 use Rattle.algebra.proofs.Search.{range-length, range-bounds, range-distinct}
 use Rattle.algebra.proofs.Euclid.{inverse-exists}
 use Rattle.algebra.proofs.Frobenius.{numeral-mod, frobenius-numeral}
+use Rattle.algebra.proofs.Injective.{injective-below}
 use Rattle.algebra.proofs.PowerRoots.{power-roots-at-most}
 
 module _ {A : Type 0} (R : CommutativeRing A) (p : ℕ) (prime : Prime p) (characteristic : numeral R p ≡ R .zero) (proper : R .one ≡ R .zero → ⊥) where
@@ -27,21 +26,11 @@ module _ {A : Type 0} (R : CommutativeRing A) (p : ℕ) (prime : Prime p) (chara
       let (b, _, e) = inverse-exists p d prime pos lt in
       proper (sym (numeral-one R) ∙ ap (numeral R) (sym e) ∙ numeral-mod R p (d * b) characteristic ∙ numeral-mul R d b ∙ ap (λ x. R .mul x (numeral R b)) z ∙ zero-mul R (numeral R b))
 
-  ordered-injective : (j k : ℕ) → j ≤ k → k < p → numeral R j ≡ numeral R k → j ≡ k
-  ordered-injective j k le lt e = by-gap (le-dest le)
-    where
-      by-gap : (d : ℕ) × (j + d ≡ k) → j ≡ k
-      by-gap (zero, g) = omega arith
-      by-gap (suc d, g) =
-          absurd (numeral-nonzero (suc d) (omega arith) (omega arith)
-          (add-left-cancel R (numeral R j) (numeral R (suc d)) (R .zero) (sym (numeral-add R j (suc d)) ∙ ap (numeral R) g ∙ sym e ∙ sym (add-zero R (numeral R j)))))
-
   pub numeral-injective : (j k : ℕ) → j < p → k < p → numeral R j ≡ numeral R k → j ≡ k
-  numeral-injective j k hj hk e = by-order (decLe j k)
-    where
-      by-order : Dec (j ≤ k) → j ≡ k
-      by-order (yes le) = ordered-injective j k le hk e
-      by-order (no gt) = sym (ordered-injective k j (omega arith) hj (sym e))
+  numeral-injective =
+      injective-below (numeral R) p
+      (λ j c l e. numeral-nonzero (suc c) (omega arith) (omega arith)
+      (add-left-cancel R (numeral R j) (numeral R (suc c)) (R .zero) (sym (numeral-add R j (suc c)) ∙ sym e ∙ sym (add-zero R (numeral R j)))))
 
 module _ {A : Type 0} (F : Field A) (p : ℕ) (prime : Prime p) (characteristic : numeral (F .ring) p ≡ F .ring .zero) where
   abbrev R : CommutativeRing A

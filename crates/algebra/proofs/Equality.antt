@@ -1,4 +1,4 @@
--- The test `equal` of two lists of numbers is true exactly when they are equal.
+-- The test `equal` of two lists of numbers is true exactly when they are equal; and when two tests have the same value, and one is false.
 use mathlib.Core.Path.{_≡_, refl, sym, ap, ap₂, _∙_}
 use mathlib.Core.Bool.{Bool, true, false, _&&_, and-eq-true-iff, false≢true}
 use mathlib.Core.List.{List, [], _∷_}
@@ -29,3 +29,8 @@ pub equal-tests : (a b : Bool) → (a ≡ true → b ≡ true) → (b ≡ true �
 equal-tests true b f g = sym (f refl)
 equal-tests false true f g = g refl
 equal-tests false false f g = refl
+
+-- a test that cannot be true is false
+pub test-fails : (b : Bool) → (b ≡ true → ⊥) → b ≡ false
+test-fails true h = absurd (h refl)
+test-fails false h = refl

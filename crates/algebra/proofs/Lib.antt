@@ -11,6 +11,7 @@ pub mod FieldLaws
 pub mod Roots
 pub mod Units
 pub mod PowerRoots
+mod Injective
 pub mod Order
 pub mod OrderExists
 pub mod Period

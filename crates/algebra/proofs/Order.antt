@@ -1,11 +1,11 @@
 -- Elements of order n: z^n = 1 and no lower power of z but z^0 is 1. The powers of z then repeat with period exactly n.
 --   HasOrder R z n   z has order n
 use mathlib.Core.Path.{_≡_, sym, ap, _∙_, _≡⟨_⟩_, _∎}
-use Prim.Native.Nat.{ℕ, zero, suc, _+_, _*_, _/_, _%_, _≤_, _<_}
-use native.Mathlib.Nat.{div-add-mod', mul-comm as ℕ·mul-comm, le-dest, le-trans, le-of-lt}
-use native.Mathlib.Decide.{decLe}
+use Prim.Native.Nat.{ℕ, suc, _+_, _*_, _/_, _%_, _≤_, _<_}
+use native.Mathlib.Nat.{div-add-mod', mul-comm as ℕ·mul-comm, le-dest}
 use native.Mathlib.Omega.{arith}
 use Rattle.algebra.specs.Ring.{CommutativeRing, power}
+use Rattle.algebra.proofs.Injective.{injective-below}
 use Rattle.algebra.proofs.RingLaws.{mul-assoc, mul-comm, one-mul, power-add, power-mul, power-of-one}
 
 pub record HasOrder {A : Type 0} (R : CommutativeRing A) (z : A) (n : ℕ) : Type 0 where
@@ -36,18 +36,11 @@ module _ {A : Type 0} (R : CommutativeRing A) (z : A) where
       ∎
 
   module _ (n : ℕ) (order : HasOrder R z n) where
-    ordered-equal : (j k : ℕ) → j ≤ k → k < n → power R z j ≡ power R z k → j ≡ k
-    ordered-equal j k le lt e = by-gap (le-dest le) (le-dest (le-trans le (le-of-lt lt)))
-      where
-        by-gap : (d : ℕ) × (j + d ≡ k) → (r : ℕ) × (j + r ≡ n) → j ≡ k
-        by-gap (zero, g) (r, h) = omega arith
-        by-gap (suc d, g) (r, h) =
-            absurd (order .least (suc d) (omega arith) (omega arith)
-            (cancel-power j (suc d) r (ap (power R z) h ∙ order .period) (e ∙ ap (power R z) (sym g))))
-
     pub powers-distinct : (j k : ℕ) → j < n → k < n → power R z j ≡ power R z k → j ≡ k
-    powers-distinct j k hj hk e = by-order (decLe j k)
+    powers-distinct =
+        injective-below (power R z) n
+        (λ j c l e. let (r, h) = le-dest (lower j c l) in
+        order .least (suc c) (omega arith) (omega arith) (cancel-power j (suc c) r (ap (power R z) h ∙ order .period) e))
       where
-        by-order : Dec (j ≤ k) → j ≡ k
-        by-order (yes le) = ordered-equal j k le hk e
-        by-order (no gt) = sym (ordered-equal k j (omega arith) hj (sym e))
+        lower : (j c : ℕ) → j + suc c < n → j ≤ n
+        lower j c l = omega arith

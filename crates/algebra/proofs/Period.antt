@@ -1,10 +1,11 @@
 -- The powers x^(p^k) of one element: where x^(p^d) = x, they repeat with period d, and those before the least period are distinct.
 use mathlib.Core.Path.{_≡_, sym, ap, _∙_}
 use Prim.Native.Nat.{ℕ, zero, suc, _+_, _*_, _/_, _%_, _^_, _≤_, _<_}
-use native.Mathlib.Nat.{pow-zero, pow-suc, add-zero, mul-zero, div-add-mod, mod-lt, pos-of-ne-zero, le-dest, le-trans, le-of-lt}
-use native.Mathlib.Decide.{ℕ-discrete, decLe}
+use native.Mathlib.Nat.{pow-zero, pow-suc, add-zero, mul-zero, div-add-mod, mod-lt, pos-of-ne-zero, le-dest}
+use native.Mathlib.Decide.{ℕ-discrete}
 use native.Mathlib.Omega.{arith}
 use Rattle.algebra.specs.Ring.{CommutativeRing, power}
+use Rattle.algebra.proofs.Injective.{injective-below}
 use Rattle.algebra.proofs.RingLaws.{power-mul, power-one}
 
 module _ {A : Type 0} (R : CommutativeRing A) (p : ℕ) where
@@ -38,20 +39,15 @@ module _ {A : Type 0} (R : CommutativeRing A) (p : ℕ) where
 
     -- below the least period they are distinct
     module _ (least : (k : ℕ) → 0 < k → k < d → power R x (p ^ k) ≡ x → ⊥) where
-      ordered-equal : (j k : ℕ) → j ≤ k → k < d → power R x (p ^ j) ≡ power R x (p ^ k) → j ≡ k
-      ordered-equal j k le lt e = by-gap (le-dest le) (le-dest (le-trans le (le-of-lt lt)))
-        where
-          by-gap : (c : ℕ) × (j + c ≡ k) → (r : ℕ) × (j + r ≡ d) → j ≡ k
-          by-gap (zero, g) (r, h) = omega arith
-          by-gap (suc c, g) (r, h) =
-              let around : d + suc c ≡ k + r = omega arith in
-              absurd (least (suc c) (omega arith) (omega arith)
-              (ap (λ y. power R y (p ^ suc c)) (sym period) ∙ sym (power-power x d (suc c)) ∙ ap (λ i. power R x (p ^ i)) around
-              ∙ power-power x k r ∙ ap (λ y. power R y (p ^ r)) (sym e) ∙ sym (power-power x j r) ∙ ap (λ i. power R x (p ^ i)) h ∙ period))
-
       pub period-distinct : (j k : ℕ) → j < d → k < d → power R x (p ^ j) ≡ power R x (p ^ k) → j ≡ k
-      period-distinct j k hj hk e = by-order (decLe j k)
+      period-distinct = injective-below (λ k. power R x (p ^ k)) d apart
         where
-          by-order : Dec (j ≤ k) → j ≡ k
-          by-order (yes le) = ordered-equal j k le hk e
-          by-order (no gt) = sym (ordered-equal k j (omega arith) hj (sym e))
+          -- x^(p^j) = x^(p^(j + c)), raised to p^r with j + r = d
+          apart : (j c : ℕ) → j + suc c < d → power R x (p ^ j) ≡ power R x (p ^ (j + suc c)) → ⊥
+          apart j c l e =
+              let less : j ≤ d = omega arith in
+              let (r, h) = le-dest less in
+              let around : d + suc c ≡ j + suc c + r = omega arith in
+              least (suc c) (omega arith) (omega arith)
+              (ap (λ y. power R y (p ^ suc c)) (sym period) ∙ sym (power-power x d (suc c)) ∙ ap (λ i. power R x (p ^ i)) around
+              ∙ power-power x (j + suc c) r ∙ ap (λ y. power R y (p ^ r)) (sym e) ∙ sym (power-power x j r) ∙ ap (λ i. power R x (p ^ i)) h ∙ period)

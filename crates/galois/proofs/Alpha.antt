@@ -1,6 +1,6 @@
 -- The search for α finds the one eigenvector modulo a T without proper divisors: every vector v ≠ 0 with v^p = ζ·v, divided by its first
 -- coefficient that is not zero. Its n-th power is the constant a.
-use mathlib.Core.Path.{_≡_, refl, sym, ap, _∙_, subst}
+use mathlib.Core.Path.{_≡_, sym, ap, _∙_, subst}
 use mathlib.Core.Bool.{Bool, true, false, not, _&&_, and-eq-true-iff, true≢false}
 use mathlib.Core.List.{List}
 use Prim.Native.Nat.{ℕ, suc}
@@ -9,7 +9,7 @@ use lib.ListN.{length, getD}
 use borrow.Author.Tests.{eqb-true, eq-eqb, not-true}
 use Rattle.algebra.specs.Lists.{equal}
 use Rattle.algebra.specs.Prime.{Prime}
-use Rattle.algebra.proofs.Equality.{equal-of, of-equal}
+use Rattle.algebra.proofs.Equality.{equal-of, of-equal, test-fails}
 use Rattle.algebra.proofs.Search.{first-unique}
 use Rattle.quotient.specs.Divisor.{HasDivisor}
 use Rattle.array.specs.Words.{Words}
@@ -22,11 +22,6 @@ use Rattle.galois.specs.Express.{Independent}
 use Rattle.galois.proofs.Irreducible.{kernel-vector-exists, power-is-constant, kernel-independent, eigenvector-unique}
 use Rattle.galois.proofs.KernelVector.{KernelVector, kernel-of-eigenvector, normalised-eigenvector}
 use Rattle.galois.proofs.FirstNonZero.{normalised}
-
--- a test that cannot be true is false
-pub test-fails : (b : Bool) → (b ≡ true → ⊥) → b ≡ false
-test-fails true h = absurd (h refl)
-test-fails false h = refl
 
 module _ (p : ℕ) (t : List ℕ) (z : ℕ) where
   abbrev test : List ℕ → Bool

@@ -9,7 +9,7 @@ use Prim.Native.Nat.{ℕ, zero, suc, _≤_, _<_}
 use native.Mathlib.Omega.{arith}
 use Rattle.algebra.specs.Lists.{equal}
 use Rattle.algebra.specs.Prime.{Prime}
-use Rattle.algebra.proofs.Equality.{equal-of, of-equal}
+use Rattle.algebra.proofs.Equality.{equal-of, of-equal, test-fails}
 use Rattle.quotient.specs.Divisor.{HasDivisor}
 use Rattle.quotient.specs.DivisorTest.{hasDivisor}
 use Rattle.array.specs.Words.{Words}
@@ -18,7 +18,7 @@ use Rattle.quotient.proofs.Decision.{has-divisor-test, has-divisor?, irreducibl
 use Rattle.roots.specs.Roots.{OrderModulo}
 use Rattle.galois.specs.Eigenvector.{alpha, powerConstant}
 use Rattle.galois.specs.Express.{Independent}
-use Rattle.galois.proofs.Alpha.{test-fails, alpha-normalised, alpha-kernel, alpha-independent, alpha-constant, power-constant-is}
+use Rattle.galois.proofs.Alpha.{alpha-normalised, alpha-kernel, alpha-independent, alpha-constant, power-constant-is}
 use Rattle.galois.proofs.Irreducible.{kernel-vector-exists, power-is-constant}
 use Rattle.galois.proofs.KernelVector.{KernelVector}
 use Rattle.galois.proofs.FirstNonZero.{normalised}
