@@ -1,5 +1,7 @@
 // The session, as C has it. A value made otherwise counts as a new session.
 use array::Word;
+use conversion::convert::back_by;
+use conversion::convert::forward_by;
 use cvalue::RecordValue;
 use cvalue::SessionValue;
 use cvalue::StepValue;
@@ -11,8 +13,6 @@ use cvalue::sessions::session_of;
 use held::Held;
 use held::HeldStep;
 use ledger::Direction;
-use session::convert::back_by;
-use session::convert::forward_by;
 use session::counted::held_if;
 ghost use mathlib.Core.Path.{_≡_};
 ghost use lib.ListN.{length};

@@ -11,12 +11,14 @@ use Rattle.held.specs.Held.{view, t1Of, t2Of, sOf, rOf, newHeld}
 use Rattle.held.specs.declared.Held.{Held}
 use Rattle.held.specs.declared.HeldStep.{HeldStep}
 use Rattle.ledger.specs.declared.Direction.{Direction}
-use Rattle.session.specs.Session.{heldIf, answer, stepWith, load, propose, find, convertFrom, recorded, convert, forwardOutput, backOutput, clear}
-use Rattle.session.specs.Inner.{convertedFrom, outputFrom}
-use Rattle.session.specs.declared.convert.Converted.{Converted}
+use Rattle.session.specs.Session.{heldIf, answer, stepWith, load, propose, find, recorded, convert, forwardOutput, backOutput, clear}
+use Rattle.conversion.specs.Conversion.{convertFrom}
+use Rattle.conversion.specs.ByHeld.{convertedFrom, outputFrom}
+use Rattle.conversion.specs.declared.convert.Converted.{Converted}
 use Rattle.session.proofs.Answer.{load-by, propose-by, find-by, clear-answers}
 use Rattle.session.proofs.Conversion as Conversion
-use Rattle.session.proofs.Conversion.{number-empty, converts}
+use Rattle.session.proofs.Conversion.{converts}
+use Rattle.conversion.proofs.Numbers.{number-empty}
 use Rattle.session.proofs.CountsAs.{Counts}
 use Rattle.cvalue.specs.Inner.{validValue, Recordable}
 use Rattle.cvalue.specs.Values.{heldOf, sessionOf, stepOf}

@@ -15,9 +15,9 @@ ghost use Rattle.irreducible.specs.Rabin.{conjugateOfX, Passes};
 use crate::conjugate::conjugate;
 use crate::conjugate::difference;
 use crate::inverse::has_inverse;
+use comparison::equality::is_x;
 use matrix::frobenius::frobenius;
 use modular::barrett::Barrett;
-use residue::compare::is_x;
 
 // The primes up to 16, among which are all that divide a degree.
 const PRIMES: [usize; 6] = [2, 3, 5, 7, 11, 13];

@@ -20,9 +20,9 @@ use Rattle.quotient.specs.Residue.{residues, constant, conjugate, modulusAt}
 use Rattle.quotient.proofs.Conjugates.{conjugate-words}
 use Rattle.quotient.proofs.Listing.{residues-ascending, residues-complete, residues-sound}
 use Rattle.maps.specs.Maps.{maps}
-use Rattle.maps.specs.Sorting.{sorted}
+use Rattle.sorting.specs.Sorting.{sorted}
 use Rattle.maps.proofs.AllRoots.{conjugates-apart, conjugate-is-root, root-is-conjugate}
-use Rattle.maps.proofs.Insertion.{sorted-member, member-sorted, sorted-ascending}
+use Rattle.sorting.proofs.Insertion.{sorted-member, member-sorted, sorted-ascending}
 
 -- the elements are the roots of T1 modulo T2
 

@@ -1,5 +1,4 @@
--- All the maps of a pair: sorting by insertion, the conjugates of a root, and the proofs of what is promised.
-mod Insertion
+-- All the maps of a pair: the conjugates of a root, and the proofs of what is promised.
 mod AllRoots
 mod AllMaps
 pub mod Theorem

@@ -16,10 +16,10 @@ use Rattle.pair.proofs.Theorem.{checker-theorem}
 use Rattle.pair.proofs.TwoCongruences.{two-congruences}
 use Rattle.quotient.specs.Residue.{constant, conjugate}
 use Rattle.maps.specs.Maps.{maps}
-use Rattle.maps.specs.Sorting.{sorted}
+use Rattle.sorting.specs.Sorting.{sorted}
 use Rattle.maps.specs.Theorem.{MapsTheorem, MapsAreConjugates}
 use Rattle.maps.proofs.AllMaps.{maps-ascending, map-root, root-map, maps-sorted}
-use Rattle.maps.proofs.Insertion.{sorted-length, sorted-member, member-sorted}
+use Rattle.sorting.proofs.Insertion.{sorted-length, sorted-member, member-sorted}
 
 root-accepted : (p n : ℕ) (t1 t2 s r : List ℕ) → Given p n t1 t2 s r → Fields p n t1 t2 → (s' : List ℕ) → Member s' (maps p t1 t2)
     → (r' : List ℕ) × (checkNumber p n t1 t2 s' r' ≡ 0)

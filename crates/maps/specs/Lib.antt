@@ -2,4 +2,3 @@
 pub mod Maps
 pub mod Theorem
 pub mod Accepted
-pub mod Sorting

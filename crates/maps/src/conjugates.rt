@@ -1,7 +1,7 @@
 // The conjugates S, S^p, S^(p²), … modulo T, by one matrix of u ↦ u^p. Each is inserted into the list of those before it, which stays in ascending order.
 ghost use mathlib.Core.List.{flatten};
 ghost use mathlib.Core.Path.{_≡_};
-ghost use Prim.Native.Nat.{suc, _*_, _≤_, _<_};
+ghost use Prim.Native.Nat.{_*_, _≤_};
 ghost use lib.ListN.{length, take};
 ghost use Rattle.algebra.specs.Prime.{Prime};
 ghost use Rattle.array.specs.Array.{Holds};
@@ -9,31 +9,13 @@ ghost use Rattle.array.specs.Words.{Words, wordBound};
 ghost use Rattle.matrix.specs.Matrix.{Frobenius};
 ghost use Rattle.modular.specs.Barrett.{Reduces};
 ghost use Rattle.quotient.specs.Residue.{conjugate};
-ghost use Rattle.maps.specs.Sorting.{rows, insert as insertInto, sorted};
-use crate::order::exchange;
+ghost use Rattle.sorting.specs.Sorting.{sorted};
 use array::Word;
 use array::copy::load;
-use array::copy::store;
 use matrix::frobenius::frobenius;
 use matrix::product::products;
 use modular::barrett::Barrett;
-
-// Inserts u into the first k rows of out, which becomes k + 1: each row keeps the lower of itself and what is carried to it, and the highest is the last row.
-fn insert(n: usize, k: usize, u: &[u64; 16], out: &mut [Word])
-    requires { ⌜ (k < n) × (n ≤ 16) × (length (now out) ≡ n * n) ⌝ }
-    requires { ⌜ Holds wordBound n (now u) × Words wordBound (k * n) (take (k * n) (now out)) ⌝ }
-    ensures { λ _. ⌜ take (suc k * n) (now (out .exit)) ≡ flatten (insertInto (take n (now (u .entry))) (rows n k (now (out .entry)))) ⌝ }
-{
-    let mut carried = *u;
-    let mut j = 0;
-    while j < k {
-        let start = j * n;
-        exchange(n, &mut carried, &mut out[start..start + n]);
-        j += 1;
-    }
-    let start = k * n;
-    store(&carried, &mut out[start..start + n]);
-}
+use sorting::insert::insert;
 
 // The n conjugates of S in ascending order.
 fn sorted_conjugates(

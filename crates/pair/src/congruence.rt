@@ -1,9 +1,9 @@
 // The congruences of a pair. Two of them, T1(S) = 0 and R(S) = X modulo T2, imply the other two, and one matrix of the powers of S serves both.
+use comparison::equality::is_x;
+use comparison::equality::opposite;
 use matrix::powers::column;
 use matrix::powers::powers;
 use matrix::product::apply;
-use residue::compare::is_x;
-use residue::compare::opposite;
 use residue::ring::product;
 ghost use mathlib.Core.Path.{_≡_};
 ghost use Prim.Native.Nat.{_^_, _≤_};

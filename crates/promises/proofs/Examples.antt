@@ -25,7 +25,8 @@ use Rattle.refusal.proofs.Refusal.{refuse-none}
 use Rattle.array.specs.Array.{padded}
 use Rattle.held.specs.Held.{valid, validAs, validHeld, viewAs, view, pairedHeld}
 use Rattle.table.specs.Table.{eachGroup, converted, tableNumber}
-use Rattle.session.specs.Session.{validWith, counted, convertFrom, convertNumber, outputBy}
+use Rattle.conversion.specs.Conversion.{convertFrom}
+use Rattle.session.specs.Session.{validWith, counted, convertNumber, outputBy}
 use Rattle.promises.specs.Examples.{FinderValues, Examples}
 use Rattle.promises.proofs.Listed.{root, found, outputs}
 use Rattle.promises.proofs.Refused.{words-counted, factor-divides, indivisible-refused, divisor-refused, second-refused}

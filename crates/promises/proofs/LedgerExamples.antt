@@ -12,7 +12,8 @@ use Rattle.text.specs.Digits.{decimal, lastDigits}
 use Rattle.held.specs.Held.{valid, validAs, validHeld, viewAs, view, pairedHeld}
 use Rattle.table.specs.Table.{tableNumber}
 use Rattle.ledger.specs.Ledger.{total, letter, number, line, lines, report}
-use Rattle.session.specs.Session.{validWith, counted, answer, convertFrom, convertNumber, convert, reportText, reportNumber}
+use Rattle.conversion.specs.Conversion.{convertFrom}
+use Rattle.session.specs.Session.{validWith, counted, answer, convertNumber, convert, reportText, reportNumber}
 use Rattle.promises.specs.LedgerExamples.{LedgerExamples}
 
 pub ledger-examples : LedgerExamples

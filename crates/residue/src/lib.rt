@@ -2,8 +2,6 @@
 //   product      the product with delayed reduction, on which that of the ring rests
 //   ring         product, power and substitution
 //   difference   u − v
-//   compare      whether residues are equal
-pub mod compare;
 pub mod difference;
 mod product;
 pub mod ring;

@@ -23,7 +23,8 @@ use Rattle.ledger.proofs.Records.{total-append}
 use Rattle.ledger.proofs.Theorem.{added-behind}
 use Rattle.table.proofs.Convertible.{Convertible, table-given}
 use Rattle.table.proofs.Groups.{converted-images}
-use Rattle.session.specs.Session.{newSession, counted, withHeld, answer, whereZero, convertNumber, outputBy, recorded, convert, reportText, reportNumber}
+use Rattle.conversion.specs.Conversion.{whereZero}
+use Rattle.session.specs.Session.{newSession, counted, withHeld, answer, convertNumber, outputBy, recorded, convert, reportText, reportNumber}
 use Rattle.session.specs.Theorem.{Call, callLoad, callPropose, callFind, callConvert, callReport, callClear, next, run, EveryRun, RefusalsChangeNothing, GroupByGroup, BackAgain, ConversionAddsRecord, OthersKeepLedger, convertedBy, convertedIn, TotalsCount}
 use Rattle.session.specs.declared.Session.{Session}
 use Rattle.session.proofs.Answer.{answer-keeps, answer-number, answer-zero}

@@ -11,9 +11,6 @@
 --   load x p n t1 t2            load: empty to loaded; 23, 1 to 4
 --   propose x s r               propose S, R: loaded to paired if the checker accepts; 21, 24, 3, 4, 6, 7, 8
 --   find x                      find: loaded to paired with the finder's pair; 21, 24, 5, 6, 7
---   orElse k rest               the number k, or what comes after it where k is 0
---   whereZero j k               k where the number j is 0, else 0
---   convertFrom v k table out   the number of a conversion, by what is held and the number of records: 21, 22, 9, 10, 4, 25
 --   convertNumber x table out   that of x
 --   outputBy x t s table out    what the list lent to a conversion by the map u ↦ u(S) modulo T then holds: the table converted, or what it held
 --   recorded x d k              x with one record more, of k residues in the direction d
@@ -32,13 +29,14 @@ use lib.Dec.{leb, eqb}
 use lib.ListN.{length}
 use Rattle.refusal.specs.Refusal.{refuse, written}
 use Rattle.held.specs.Held as Held
-use Rattle.held.specs.Held.{View, empty, loaded, paired, validHeld, view, t1Of, t2Of, sOf, rOf, newHeld}
+use Rattle.held.specs.Held.{validHeld, view, t1Of, t2Of, sOf, rOf, newHeld}
 use Rattle.held.specs.declared.Held.{Held}
 use Rattle.held.specs.declared.HeldStep.{HeldStep}
 use Rattle.ledger.specs.Ledger as Ledger
 use Rattle.ledger.specs.Ledger.{mostRecords, newLedger, recordsOf, added}
 use Rattle.ledger.specs.declared.Direction.{Direction}
-use Rattle.table.specs.Table.{converted, tableNumber}
+use Rattle.table.specs.Table.{converted}
+use Rattle.conversion.specs.Conversion.{convertFrom}
 use Rattle.session.specs.declared.Session.{Session}
 use Rattle.session.specs.declared.Step.{Step}
 
@@ -80,19 +78,6 @@ propose x s r = stepWith x (Held.propose (counted x .held) s r)
 
 abbrev pub find : Session → Step
 find x = stepWith x (Held.find (counted x .held))
-
-abbrev pub orElse : ℕ → ℕ → ℕ
-orElse zero rest = rest
-orElse (suc k) rest = suc k
-
-abbrev pub whereZero : ℕ → ℕ → ℕ
-whereZero zero k = k
-whereZero (suc j) k = 0
-
-unfoldable pub convertFrom : View → ℕ → List ℕ → List ℕ → ℕ
-convertFrom empty k table out = 21
-convertFrom (loaded p n t1 t2) k table out = 22
-convertFrom (paired p n t1 t2 s r) k table out = orElse (tableNumber p n table out) (refuse 25 (eqb k mostRecords) 0)
 
 unfoldable pub convertNumber : Session → List ℕ → List ℕ → ℕ
 convertNumber x table out = convertFrom (view (counted x .held)) (counted x .ledger .count) table out

@@ -29,7 +29,8 @@ use Rattle.ledger.specs.declared.Direction.{Direction}
 use Rattle.ledger.specs.declared.Direction.the-variants.{Forward, Back}
 use Rattle.ledger.specs.declared.Ledger.{Ledger}
 use Rattle.table.specs.Table.{Images}
-use Rattle.session.specs.Session.{newSession, load, propose, find, whereZero, convert, forwardOutput, backOutput, report, reportText, reportOutput, clear}
+use Rattle.conversion.specs.Conversion.{whereZero}
+use Rattle.session.specs.Session.{newSession, load, propose, find, convert, forwardOutput, backOutput, report, reportText, reportOutput, clear}
 use Rattle.session.specs.declared.Session.{Session}
 
 pub data Call : Type 0 where

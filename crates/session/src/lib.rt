@@ -1,10 +1,10 @@
 // The session: a value around what is held and the ledger (document 01, "The session"; document 02, S-2). The calls take a session and give the next
 // one; none requires anything.
 //   counted   what a session counts as
-//   convert   Session::forward and Session::back: tables of residues, each a record of the ledger
+//   forward   Session::forward and Session::back: tables of residues, each a record of the ledger
 //   report    Session::report and Session::report_length: the ledger's text
-pub mod convert;
 pub mod counted;
+mod forward;
 mod report;
 
 use crate::counted::held_if;

@@ -12,7 +12,7 @@ use Rattle.quotient.specs.Residue.{conjugate}
 use Rattle.refusal.proofs.Written.{output-new, output-old}
 use Rattle.maps.specs.Accepted.{Accepted}
 use Rattle.maps.specs.Maps.{maps, mapsNumber, mapsOutput}
-use Rattle.maps.specs.Sorting.{sorted}
+use Rattle.sorting.specs.Sorting.{sorted}
 use Rattle.maps.proofs.AllMaps.{maps-sorted}
 
 -- m is the length that is asked for

@@ -9,7 +9,7 @@ use Rattle.array.specs.Words.{Words, wordBound}
 use Rattle.array.proofs.Padded.{front-is, holds-is}
 use Rattle.matrix.specs.Matrix.{Frobenius}
 use Rattle.quotient.specs.Residue.{conjugate}
-use Rattle.maps.specs.Sorting.{sorted}
+use Rattle.sorting.specs.Sorting.{sorted}
 
 pub loaded-holds : (p n : ℕ) (u a : List ℕ) → a ≡ padded u → Words p n u → Holds p n a
 loaded-holds p n u a e w = holds-is e w

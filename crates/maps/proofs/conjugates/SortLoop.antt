@@ -20,9 +20,9 @@ use Rattle.matrix.specs.Matrix.{Frobenius, matrixProduct}
 use Rattle.matrix.proofs.FrobeniusMatrix as FrobeniusMatrix
 use Rattle.quotient.specs.Residue.{conjugate}
 use Rattle.quotient.proofs.Conjugates.{conjugate-words, conjugate-zero}
-use Rattle.maps.specs.Sorting.{insert, rows, sorted}
-use Rattle.maps.proofs.Insertion.{sorted-length, sorted-member}
-use Rattle.maps.proofs.conjugates.Rows.{rows-flatten}
+use Rattle.sorting.specs.Sorting.{insert, rows, sorted}
+use Rattle.sorting.proofs.Insertion.{sorted-length, sorted-member}
+use Rattle.sorting.proofs.insert.Rows.{rows-flatten}
 
 pub record Sorting (p n : ℕ) (t s out₀ out u : List ℕ) (k : ℕ) : Type 0 where
   pub within : k ≤ n

@@ -1,0 +1,3 @@
+// Comparison of residues in arrays.
+//   equality   whether residues are equal, opposite, or that of X
+pub mod equality;

@@ -1,0 +1,2 @@
+-- The numbers of a conversion, by the tests of the code.
+pub mod Numbers

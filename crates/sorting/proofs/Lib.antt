@@ -1,0 +1,2 @@
+-- The laws of sorting by insertion.
+pub mod Insertion

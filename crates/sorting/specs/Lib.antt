@@ -1,0 +1,2 @@
+-- Sorting by insertion: the words of its contracts.
+pub mod Sorting
