@@ -1,4 +1,4 @@
--- The test `equal` of two lists of numbers is true exactly when they are equal; and when two tests have the same value, and one is false.
+-- The test `equal` of two lists of numbers is true exactly when they are equal. Besides, two laws of tests: when two agree, and when one is false.
 use mathlib.Core.Path.{_≡_, refl, sym, ap, ap₂, _∙_}
 use mathlib.Core.Bool.{Bool, true, false, _&&_, and-eq-true-iff, false≢true}
 use mathlib.Core.List.{List, [], _∷_}

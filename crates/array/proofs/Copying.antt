@@ -1,6 +1,6 @@
 -- The words of a list copied one after another, into an array and out of it.
 --   entry xs k   word k of xs
-use mathlib.Core.Path.{_≡_, refl, sym, ap, _∙_}
+use mathlib.Core.Path.{_≡_, refl, ap, _∙_}
 use mathlib.Core.List.{List, [], _∷_, _++_, append-nil}
 use Prim.Native.Nat.{ℕ, zero, suc, _+_, _≤_, _<_}
 use native.Mathlib.Nat as Nat
@@ -10,8 +10,8 @@ use lib.Seq.{take-length, drop-length}
 use mir.Syntax.{w16}
 use mir.Val.{Fits}
 use Rattle.array.specs.Array.{padded, Holds}
-use Rattle.array.proofs.Painted.{painted, table, painted-is, painted-next, painted-length, painted-turn}
-use Rattle.array.proofs.Padded.{array-fits, painted-array, padded-zeros, take-zeros, holds-word, painted-table}
+use Rattle.array.proofs.Painted.{painted, table, painted-is, painted-length, painted-turn}
+use Rattle.array.proofs.Padded.{array-fits, holds-word, painted-table}
 use Rattle.array.specs.Words.{wordBound}
 
 unfoldable pub entry : List ℕ → ℕ → ℕ

@@ -1,6 +1,6 @@
 -- Inverses on lists, and: the residues modulo T are a field exactly when T has no monic divisor of degree 1 to n − 1. A divisor D of such a degree is itself a residue, not 0; it is 0
 -- modulo D, so it has no inverse modulo T, for 1 is not 0 modulo D.
-use mathlib.Core.Path.{_≡_, refl, sym, ap, subst, _∙_}
+use mathlib.Core.Path.{_≡_, sym, ap, subst, _∙_}
 use mathlib.Core.List.{List, [], _∷_, _++_, append-assoc, head-eq-of-cons-eq, tail-eq-of-cons-eq}
 use Prim.Native.Nat.{ℕ, zero, suc, _+_, _-_, _≤_, _<_}
 use native.Mathlib.Omega.{arith}

@@ -9,7 +9,6 @@ use Rattle.refusal.proofs.Written.{output-old}
 use Rattle.pair.specs.Pair.{forward, backward}
 use Rattle.pair.specs.Theorem.{Given}
 use Rattle.held.specs.Held.{t1Of, t2Of, sOf, rOf}
-use Rattle.held.specs.Held as Held
 use Rattle.held.specs.Theorem.{Reached, is-new}
 use Rattle.held.specs.declared.Held.{Held}
 use Rattle.held.specs.declared.State.the-variants.{Paired}
