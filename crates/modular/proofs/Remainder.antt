@@ -40,47 +40,53 @@ square-power a h = twice h ∙ sym (pow-add a h h)
     twice zero = simp pow-zero
     twice (suc k) = simp pow-suc (ap (λ x. x * (a * a)) (twice k) ∙ omega arith)
 
--- the turns of the power
+-- the turns of the power; the numbers need not be reduced
 
 pub record PowerLeft (p a k r b e : ℕ) : Type 0 where
   pub value : r * b ^ e % p ≡ a ^ k % p
-  pub below : r < p
-  pub small : b ≤ 1048576
+  pub below : r < 2 * p
+  pub factor-below : b < 2 * p
 
-pub power-start : (p a k : ℕ) → 0 < p → a ≤ 1048576 → PowerLeft p a k (1 % p) a k
-power-start p a k h small = record { value = mod-mul-mod 1 p (a ^ k) ∙ ap (λ x. x % p) (one-mul (a ^ k)); below = mod-lt 1 h; small = small }
+pub power-start : (p a k b : ℕ) → 2 ≤ p → b ≡ a % p → PowerLeft p a k 1 b k
+power-start p a k b big e =
+    record {
+      value = ap (λ x. x % p) (one-mul (b ^ k)) ∙ ap (λ x. x ^ k % p) e ∙ pow-mod a p k;
+      below = omega arith;
+      factor-below = let l : a % p < p = mod-lt a (omega arith) in omega arith;
+    }
 
-module _ (p a k r b e : ℕ) (h : PowerLeft p a k r b e) (few : p ≤ 1048576) where
-  -- r·(b²)^(e / 2), where b² is reduced
-  halved : (c : ℕ) → c ≡ (b * b) % p → (x : ℕ) → x * c ^ (e / 2) % p ≡ x * b ^ (e / 2 + e / 2) % p
+module _ (p a k r b e : ℕ) (h : PowerLeft p a k r b e) where
+  -- x·(b²)^(e / 2), where c is b² modulo p
+  halved : (c : ℕ) → c % p ≡ (b * b) % p → (x : ℕ) → x * c ^ (e / 2) % p ≡ x * b ^ (e / 2 + e / 2) % p
   halved c ec x =
-      sym (mul-mod-mod x (c ^ (e / 2)) p) ∙ ap (λ y. (x * y) % p) (ap (λ y. y ^ (e / 2) % p) ec ∙ pow-mod (b * b) p (e / 2) ∙ ap (λ y. y % p) (square-power b (e / 2)))
+      sym (mul-mod-mod x (c ^ (e / 2)) p)
+      ∙ ap (λ y. (x * y) % p) (sym (pow-mod c p (e / 2)) ∙ ap (λ y. y ^ (e / 2) % p) ec ∙ pow-mod (b * b) p (e / 2) ∙ ap (λ y. y % p) (square-power b (e / 2)))
       ∙ mul-mod-mod x (b ^ (e / 2 + e / 2)) p
 
-  pub power-even : (c s : ℕ) → (e % 2 ≡ 1 → ⊥) → s ≡ r → c ≡ (b * b) % p → c < p → PowerLeft p a k s c (e / 2)
+  pub power-even : (c s : ℕ) → (e % 2 ≡ 1 → ⊥) → s ≡ r → c % p ≡ (b * b) % p → c < 2 * p → PowerLeft p a k s c (e / 2)
   power-even c s even es ec lc =
       let double : e / 2 + e / 2 ≡ e = omega arith in
       record {
         value = halved c ec s ∙ ap₂ (λ x y. x * b ^ y % p) es double ∙ h .value;
         below = omega (arith, h .below);
-        small = omega arith;
+        factor-below = lc;
       }
 
-  pub power-odd : (c s x : ℕ) → e % 2 ≡ 1 → x ≡ (r * b) % p → x < p → s ≡ x → c ≡ (b * b) % p → c < p → PowerLeft p a k s c (e / 2)
+  pub power-odd : (c s x : ℕ) → e % 2 ≡ 1 → x % p ≡ (r * b) % p → x < 2 * p → s ≡ x → c % p ≡ (b * b) % p → c < 2 * p → PowerLeft p a k s c (e / 2)
   power-odd c s x odd ex lx es ec lc =
       let double : suc (e / 2 + e / 2) ≡ e = omega arith in
       let q : ℕ = b ^ (e / 2 + e / 2) in
       let regroup : r * b * q ≡ r * (q * b) = mul-assoc r b q ∙ ap (λ x. r * x) (mul-comm b q) in
       record {
         value =
-            halved c ec s ∙ ap (λ y. y * q % p) (es ∙ ex) ∙ mod-mul-mod (r * b) p q
+            halved c ec s ∙ ap (λ y. y * q % p) es ∙ sym (mod-mul-mod x p q) ∙ ap (λ y. y * q % p) ex ∙ mod-mul-mod (r * b) p q
             ∙ ap (λ x. x % p) (regroup ∙ ap (λ x. r * x) (sym (pow-suc b (e / 2 + e / 2)) ∙ ap (λ x. b ^ x) double)) ∙ h .value;
         below = omega arith;
-        small = omega arith;
+        factor-below = lc;
       }
 
-  pub power-end : e ≤ 0 → r ≡ a ^ k % p
+  pub power-end : e ≤ 0 → r % p ≡ a ^ k % p
   power-end l =
       let none : e ≡ 0 = omega arith in
       let left : r * b ^ e ≡ r = ap (λ x. r * b ^ x) none ∙ ap (λ x. r * x) (pow-zero b) ∙ mul-one r in
-      sym (mod-eq-of-lt (h .below)) ∙ ap (λ x. x % p) (sym left) ∙ h .value
+      ap (λ x. x % p) (sym left) ∙ h .value

@@ -1,2 +1,3 @@
 -- The laws on which the proofs of `word` rest.
 mod Bezout
+mod PowerLoop

@@ -44,7 +44,7 @@ impl Barrett {
     }
 
     // A number below 2·p that is x modulo p.
-    fn near(self, x: u64) -> u64
+    pub fn near(self, x: u64) -> u64
         requires { ⌜ Reduces self × (x ≤ 64 * (self .p * self .p)) ⌝ }
         ensures { λ y. ⌜ (y < 2 * self .p) × (y % self .p ≡ x % self .p) ⌝ }
     {

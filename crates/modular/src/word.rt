@@ -4,6 +4,7 @@ ghost use Prim.Native.Nat.{_+_, _-_, _*_, _%_, _^_, _≤_, _<_};
 ghost use Rattle.algebra.specs.Prime.{Prime};
 ghost use mathlib.Core.Logic.{_⊎_};
 ghost use Rattle.modular.specs.Inverse.{inverse as inverseOf};
+use crate::barrett::Barrett;
 
 // a + b modulo p.
 pub fn add(p: u64, a: u64, b: u64) -> u64
@@ -38,22 +39,26 @@ pub fn mul(p: u64, a: u64, b: u64) -> u64
     a * b % p
 }
 
-// a^k modulo p. In each turn r·b^e = a^k, and e is halved.
+// a^k modulo p. In each turn r·b^e = a^k, and e is halved; r and b are below 2·p, and only the last is reduced.
 pub fn power(p: u64, a: u64, k: u64) -> u64
     requires { ⌜ (0 < p) × (p ≤ 1048576) × (a ≤ 1048576) ⌝ }
     ensures { λ r. ⌜ (r ≡ (a ^ k) % p) × (r < p) ⌝ }
 {
-    let mut r = 1 % p;
-    let mut b = a;
+    if p < 2 {
+        return 0;
+    }
+    let d = Barrett::new(p);
+    let mut r = 1;
+    let mut b = remainder(p, a);
     let mut e = k;
     while e > 0 {
         if e % 2 == 1 {
-            r = mul(p, r, b);
+            r = d.near(r * b);
         }
-        b = mul(p, b, b);
+        b = d.near(b * b);
         e = e / 2;
     }
-    r
+    d.reduce(r)
 }
 
 // Some t with a·t = 1 or a·t = −1 modulo p, by Euclid's algorithm on p and a. In each turn x·t + y·s = p, and a·t = y, a·s = −x modulo p

@@ -1,0 +1,2 @@
+-- What the callers of the table use.
+pub mod Empty

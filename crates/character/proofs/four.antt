@@ -1,0 +1,2 @@
+-- The laws on which the proofs of `four` rest.
+mod PowerTurn

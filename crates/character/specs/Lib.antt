@@ -1,0 +1,3 @@
+-- What the contracts on powers of the first numbers cite.
+pub mod Four
+pub mod Table
