@@ -2,3 +2,4 @@
 pub mod Zeta
 pub mod RootOfRatio
 mod RootsOfUnity
+pub mod Radicands

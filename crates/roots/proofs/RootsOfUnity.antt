@@ -20,7 +20,7 @@ use Rattle.algebra.proofs.PowerRoots.{power-root, power-roots-at-most}
 use Rattle.algebra.proofs.Order.{HasOrder, powers-distinct}
 use Rattle.modular.proofs.Field.{Below, wordRing, wordField, below-equal, zero-value, one-value, mul-value, power-value, nonzeroWords, nonzero-words, nonzero-words-length}
 use Rattle.roots.specs.Roots.{zeta, Admissible, OrderModulo}
-use Rattle.roots.proofs.Zeta.{zeta-is, zero-power}
+use Rattle.roots.proofs.Zeta.{zeta-is, zero-power, order-positive}
 
 module _ {A : Type 0} (F : Field A) (w : A) (n : ℕ) (pos : 0 < n) (order : HasOrder (F .ring) w n) where
   abbrev R : CommutativeRing A
@@ -100,19 +100,26 @@ module _ {p n : ℕ} (h : Admissible p n) where
       from-index (zero, l, f) = (n, h .low, omega arith, ap (λ x. x .0) f ∙ power-value p big (w, lw) 0 ∙ ap (λ x. x % p) (pow-zero w) ∙ mod-eq-of-lt big ∙ sym (o .0))
       from-index (suc j, l, f) = (suc j, omega arith, omega arith, ap (λ x. x .0) f ∙ power-value p big (w, lw) (suc j))
 
-  pub generator-exists : (g : ℕ) × (1 ≤ g) × (g < p) × OrderModulo p n (g ^ ((p - 1) / n) % p)
+  -- u^((p − 1)/n) = z is solvable if z^n = 1
+  pub radicand-exists : (z : ℕ) → z < p → OrderModulo p n z → (u : ℕ) × (1 ≤ u) × (u < p) × (u ^ ((p - 1) / n) % p ≡ z)
   unfolding wordField
-  generator-exists =
+  radicand-exists z below order =
       let k : ℕ = (p - 1) / n in
-      let z = zeta-is p n (h .prime) (h .low) (h .high) (h .divides) in
       let count : k * n ≡ p - 1 = omega (arith, div-add-mod' (p - 1) n, h .divides) in
       let positive : 0 < k = pos-of-ne-zero (λ e. let o : 0 * n ≡ p - 1 = ap (λ x. x * n) (sym e) ∙ count in omega arith) in
       let (u, e) = power-root (wordField p (h .prime)) (nonzeroWords p big) (nonzero-words p (h .prime)) k n positive (nonzero-words-length p big ∙ sym count)
-      (zeta p n, z .1) (has-order (zeta p n, z .1) (z .2) .period) in
-      let value : u .0 ^ k % p ≡ zeta p n = sym (power-value p big u k) ∙ ap (λ x. x .0) e in
+      (z, below) (has-order (z, below) order .period) in
+      let value : u .0 ^ k % p ≡ z = sym (power-value p big u k) ∙ ap (λ x. x .0) e in
       let nonzero : u .0 ≡ 0 → ⊥ =
-      λ f. let o : 0 ≡ zeta p n = sym (zero-mod p) ∙ ap (λ x. x % p) (sym (zero-power k positive) ∙ ap (λ x. x ^ k) (sym f)) ∙ value in omega (arith, z .0) in
-      (u .0, pos-of-ne-zero nonzero, u .1, subst (OrderModulo p n) (sym value) (z .2))
+      λ f. let o : 0 ≡ z = sym (zero-mod p) ∙ ap (λ x. x % p) (sym (zero-power k positive) ∙ ap (λ x. x ^ k) (sym f)) ∙ value in
+      omega (arith, order-positive p n (h .prime) (h .low) z order) in
+      (u .0, pos-of-ne-zero nonzero, u .1, value)
+
+  pub generator-exists : (g : ℕ) × (1 ≤ g) × (g < p) × OrderModulo p n (g ^ ((p - 1) / n) % p)
+  generator-exists =
+      let z = zeta-is p n (h .prime) (h .low) (h .high) (h .divides) in
+      let (u, low, high, value) = radicand-exists (zeta p n) (z .1) (z .2) in
+      (u, low, high, subst (OrderModulo p n) (sym value) (z .2))
 
   module _ (a b : ℕ) (pos : 0 < a) (la : a < p) (lb : b < p) where
     -- the same equation between words

@@ -55,19 +55,39 @@ fn adjust(p: u64, k: u64, x: u64, h: u64, q: u64, y: u64) -> u64
     r
 }
 
-// A number that is tried as a solution y of y^n = b. Let p − 1 = n·m·d, m prime to n and every prime of d one of n. If r is the inverse of n
-// modulo m, y = b^r has (b/y^n)^d = 1. If g^((p − 1)/n) has order n, h = g^m has order n·d, and y times a power of h with exponent below a
-// prime q of d satisfies the same with d/q for d; then h^q takes the place of h.
-fn candidate(p: u64, n: u64, g: u64, b: u64) -> u64
+// What the search for roots needs of p and n: let p − 1 = n·m·d, m prime to n and every prime of d one of n. The exponent is the inverse of n modulo m, and the
+// generator g^m, for a g of which g^((p − 1)/n) has order n: it has order n·d. Nothing is promised of these numbers but their size.
+pub struct Group {
+    pub exponent: u64,
+    pub generator: u64,
+    pub index: u64,
+}
+
+// The numbers for g, worked out once for all roots.
+pub fn prepare(p: u64, n: u64, g: u64) -> Group
     requires { ⌜ Admissible p n ⌝ }
-    requires { ⌜ (g < p) × (b < p) ⌝ }
-    ensures { λ y. ⌜ y < p ⌝ }
+    requires { ⌜ g < p ⌝ }
+    ensures { λ r. ⌜ (r .generator < p) × (r .index ≤ 1048576) ⌝ }
 {
     let k = (p - 1) / n;
     let m = coprime_part(k, n);
-    let mut y = power(p, b, inverse_of_degree(m, n));
-    let mut h = power(p, g, m);
-    let mut d = k / m;
+    Group {
+        exponent: inverse_of_degree(m, n),
+        generator: power(p, g, m),
+        index: k / m,
+    }
+}
+
+// A number that is tried as a solution y of y^n = b. If r is the inverse of n modulo m, y = b^r has (b/y^n)^d = 1. And y times a power of the generator h with exponent below
+// a prime q of d satisfies the same with d/q for d; then h^q takes the place of h.
+fn candidate(p: u64, n: u64, by: Group, b: u64) -> u64
+    requires { ⌜ Admissible p n ⌝ }
+    requires { ⌜ (by .generator < p) × (by .index ≤ 1048576) × (b < p) ⌝ }
+    ensures { λ y. ⌜ y < p ⌝ }
+{
+    let mut y = power(p, b, by.exponent);
+    let mut h = by.generator;
+    let mut d = by.index;
     let mut q = 2;
     while q <= n && d > 1 {
         if d % q == 0 {
@@ -89,13 +109,14 @@ fn solves(p: u64, n: u64, a1: u64, a2: u64, c: u64) -> bool
     mul(p, power(p, c, n), a2) == a1
 }
 
-// Some c with c^n·a2 = a1: the candidate, or else the first that a scan finds. In the finder a1^((p − 1)/n) = ζ, so that a1 serves as g.
-fn solution(p: u64, n: u64, a1: u64, a2: u64) -> u64
+// Some c with c^n·a2 = a1: the candidate, or else the first that a scan finds.
+fn solution(p: u64, n: u64, by: Group, a1: u64, a2: u64) -> u64
     requires { ⌜ Admissible p n ⌝ }
+    requires { ⌜ (by .generator < p) × (by .index ≤ 1048576) ⌝ }
     requires { ⌜ Solvable p n a1 a2 ⌝ }
     ensures { λ c. ⌜ (c < p) × (c ^ n * a2 % p ≡ a1) ⌝ }
 {
-    let y = candidate(p, n, a1, mul(p, a1, inverse(p, a2)));
+    let y = candidate(p, n, by, mul(p, a1, inverse(p, a2)));
     if solves(p, n, a1, a2, y) {
         return y;
     }
@@ -106,14 +127,15 @@ fn solution(p: u64, n: u64, a1: u64, a2: u64) -> u64
     c
 }
 
-// The smallest c with c^n·a2 = a1, given ζ.
-pub fn root_of_ratio(p: u64, n: u64, z: u64, a1: u64, a2: u64) -> u64
+// The smallest c with c^n·a2 = a1, given ζ and the group's numbers.
+pub fn root_of_ratio(p: u64, n: u64, z: u64, by: Group, a1: u64, a2: u64) -> u64
     requires { ⌜ Admissible p n ⌝ }
+    requires { ⌜ (by .generator < p) × (by .index ≤ 1048576) ⌝ }
     requires { ⌜ (z < p) × OrderModulo p n z ⌝ }
     requires { ⌜ Solvable p n a1 a2 ⌝ }
     ensures { λ r. ⌜ (r ≡ rootOfRatio p n a1 a2) × (r < p) ⌝ }
 {
-    let mut x = solution(p, n, a1, a2);
+    let mut x = solution(p, n, by, a1, a2);
     let mut least = x;
     let mut k = 1;
     while k < n {

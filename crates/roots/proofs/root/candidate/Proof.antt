@@ -1,57 +1,39 @@
--- `candidate` needs no more than that its words stay below p; the measure is d and what is left of the factors to try.
+-- `candidate`: the numbers stay small; the measure is the quotient and what is left of the factors to try.
 use borrow.Author.Needs.{needs}
 use Prim.Native.Nat.{_+_, _-_, _≤_, _<_}
-use Rattle.roots.proofs.root.RootScan.{index-positive, index-small, quotient-falls, quotient-small, exponent-fits, index-part-small}
+use Rattle.roots.proofs.root.RootScan.{quotient-falls, quotient-small, exponent-fits}
 use Rattle.roots.proofs.root.candidate.Statement.{statement}
 use Rattle.roots.proofs.root.candidate.Tie as tie
 
 abbrev Inv-loop : tie.InvT-loop
-Inv-loop p n g b k m y₀ h₀ d₀ q₀ y h d q = (y < p) × (h < p) × (d ≤ 1048576) × (2 ≤ q)
+Inv-loop p n b y₀ h₀ d₀ q₀ y h d q = (y < p) × (h < p) × (d ≤ 1048576) × (2 ≤ q)
 
 abbrev μ-loop : tie.MeasureT-loop
-μ-loop p n g b k m y₀ h₀ d₀ q₀ y h d q = d + (17 - q)
-
-sub-k : tie.Need-sub-k Inv-loop μ-loop
-sub-k c = search needs
-
-div-k : tie.Need-div-k Inv-loop μ-loop
-div-k c = search needs
-
-coprime-part-requires : tie.Need-coprime-part-requires Inv-loop μ-loop
-coprime-part-requires c κs = (search index-positive, search index-small, search needs)
-
-inverse-of-degree-requires : tie.Need-inverse-of-degree-requires Inv-loop μ-loop
-inverse-of-degree-requires c κs = search needs
+μ-loop p n b y₀ h₀ d₀ q₀ y h d q = d + (17 - q)
 
 power-requires : tie.Need-power-requires Inv-loop μ-loop
 power-requires c κs = search needs
 
-power-requires-2 : tie.Need-power-requires-2 Inv-loop μ-loop
-power-requires-2 c κs = search needs
-
-div-d : tie.Need-div-d Inv-loop μ-loop
-div-d c = search needs
-
 loop-holds : tie.Need-loop-holds Inv-loop μ-loop
-loop-holds c = (search needs, search needs, search index-part-small, search needs)
+loop-holds c = search needs
 
 rem-if2 : tie.Need-rem-if2 Inv-loop μ-loop
 rem-if2 c = search needs
 
-div-d-2 : tie.Need-div-d-2 Inv-loop μ-loop
-div-d-2 c = search needs
+div-d : tie.Need-div-d Inv-loop μ-loop
+div-d c = search needs
 
 mul-adjust : tie.Need-mul-adjust Inv-loop μ-loop
 mul-adjust c = search exponent-fits
 
-power-requires-3 : tie.Need-power-requires-3 Inv-loop μ-loop
-power-requires-3 c κs = search needs
+power-requires-2 : tie.Need-power-requires-2 Inv-loop μ-loop
+power-requires-2 c κs = search needs
 
 adjust-requires : tie.Need-adjust-requires Inv-loop μ-loop
 adjust-requires c κs = search needs
 
-power-requires-4 : tie.Need-power-requires-4 Inv-loop μ-loop
-power-requires-4 c κs = search needs
+power-requires-3 : tie.Need-power-requires-3 Inv-loop μ-loop
+power-requires-3 c κs = search needs
 
 loop-less : tie.Need-loop-less Inv-loop μ-loop
 loop-less c = search quotient-falls
@@ -80,20 +62,14 @@ candidate-spec =
     (tie.spec
     Inv-loop
     μ-loop
-    sub-k
-    div-k
-    coprime-part-requires
-    inverse-of-degree-requires
     power-requires
-    power-requires-2
-    div-d
     loop-holds
     rem-if2
-    div-d-2
+    div-d
     mul-adjust
-    power-requires-3
+    power-requires-2
     adjust-requires
-    power-requires-4
+    power-requires-3
     loop-less
     loop-again
     add-q
