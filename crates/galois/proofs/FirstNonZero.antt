@@ -59,7 +59,7 @@ pub firstNonZero-positive : {p n : ℕ} {u : List ℕ} → Words p n u → (u �
 firstNonZero-positive {n = n} w h = pos-of-ne-zero (λ e. h (zeros-of-firstNonZero w e ∙ sym (constant-zero n)))
 
 module _ {p c : ℕ} (prime : Prime p) (pos : 0 < c) (below : c < p) where
-  product-nonzero : (a : ℕ) → a < p → (a ≡ 0 → ⊥) → c * a % p ≡ 0 → ⊥
+  pub product-nonzero : (a : ℕ) → a < p → (a ≡ 0 → ⊥) → c * a % p ≡ 0 → ⊥
   product-nonzero a l n e =
       ⊎-elim
       (λ z. let o : c ≡ 0 = sym (mod-eq-of-lt below) ∙ z in omega arith)
@@ -83,7 +83,7 @@ module _ {p n : ℕ} {u : List ℕ} (prime : Prime p) (w : Words p n u) (h : u �
   one-is : inverse p (firstNonZero u) * firstNonZero u % p ≡ 1
   one-is = ap (λ x. x % p) (mul-comm (inverse p (firstNonZero u)) (firstNonZero u)) ∙ inverse-product p (firstNonZero u) prime (firstNonZero-positive w h) (firstNonZero-below (omega arith) w)
 
-  inverse-positive : 0 < inverse p (firstNonZero u)
+  pub inverse-positive : 0 < inverse p (firstNonZero u)
   inverse-positive = pos-of-ne-zero (λ e. let o : _≡_ {A = ℕ} 0 1 = sym (zero-mod p) ∙ ap (λ x. x % p) (sym (zero-mul (firstNonZero u)) ∙ ap (λ x. x * firstNonZero u) (sym e)) ∙ one-is in omega arith)
 
   pub firstNonZero-normalised : firstNonZero (normalised p u) ≡ 1

@@ -1,16 +1,16 @@
 -- Modulo a T without a divisor of degree 1 to n − 1, and for ζ of order n modulo p: the p-th power has an eigenvector with the eigenvalue ζ,
--- exactly one after normalisation, its n-th power is a constant, and its powers are independent. These are the laws of eigenvectors in the
+-- all others are multiples of it, its n-th power is a constant, and its powers are independent. These are the laws of eigenvectors in the
 -- field of the residues modulo T, read on lists.
 use mathlib.Core.Path.{_≡_, sym, ap, _∙_}
 use mathlib.Core.List.{List}
 use Prim.Native.Nat.{ℕ, zero, suc, _-_, _*_, _%_, _^_, _<_}
-use native.Mathlib.Nat.{one-le-pow, mod-eq-of-lt, mul-one}
+use native.Mathlib.Nat.{one-le-pow}
 use native.Mathlib.Omega.{arith}
 use lib.ListN.{length}
 use Rattle.algebra.specs.Prime.{Prime}
 use Rattle.algebra.specs.Ring.{CommutativeRing, Field, numeral}
 use Rattle.algebra.specs.Ring as Ring
-use Rattle.algebra.proofs.RingLaws.{one-mul, numeral-one, power-of-zero}
+use Rattle.algebra.proofs.RingLaws.{power-of-zero}
 use Rattle.algebra.proofs.Order.{HasOrder}
 use Rattle.quotient.specs.Divisor.{HasDivisor}
 use Rattle.array.specs.Words.{Words}
@@ -20,13 +20,12 @@ use Rattle.quotient.proofs.Reduction.{characteristic, scale-is}
 use Rattle.quotient.proofs.Ring.{residueRing}
 use Rattle.quotient.proofs.Substitution.{substitute-is}
 use Rattle.quotient.proofs.Operations.{residue-path}
-use Rattle.galois.specs.Eigenvector.{firstNonZero, Eigenvector}
+use Rattle.galois.specs.Eigenvector.{Eigenvector}
 use Rattle.roots.specs.Roots.{OrderModulo}
 use Rattle.galois.specs.Express.{Independent}
 use Rattle.galois.proofs.Eigenvector.{Eigen, eigen-exists, eigen-multiple, eigen-constant, eigen-constant-root}
 use Rattle.galois.proofs.Independence.{evaluate-injective}
-use Rattle.galois.proofs.KernelVector.{KernelVector, eigen-of-kernel, kernel-of-eigen, kernel-of-eigenvector}
-use Rattle.galois.proofs.FirstNonZero.{firstNonZero-scale}
+use Rattle.galois.proofs.ResidueEigenvector.{ring-eigenvector, list-eigenvector}
 use Rattle.galois.proofs.ResidueConstants.{ring-proper, fixed-constant, constant-power-is, power-numeral}
 use Rattle.roots.proofs.Zeta.{constant-order, power-modulo}
 
@@ -53,20 +52,20 @@ module _ {p n : ℕ} {t : List ℕ} (prime : Prime p) (wt : Words p (suc n) t) (
     nonzero : ζ ≡ K .zero → ⊥
     nonzero e = ring-proper prime wt (sym (order-is .period) ∙ ap (λ x. Ring.power K x (suc n)) e ∙ power-of-zero K n)
 
-    pub kernel-vector-exists : (v : List ℕ) × KernelVector p (suc n) t z v
+    pub eigenvector-exists : (v : List ℕ) × Eigenvector p (suc n) t z v
     unfolding residueField
-    kernel-vector-exists =
+    eigenvector-exists =
         let (v, h) =
         eigen-exists F p prime vanishes ζ (nonzeroResidues prime wt irreducible) (nonzero-residues prime wt irreducible) (suc n) nonzero-count
         (fixed-constant prime wt z) (order-is .period) nonzero in
-        (v .0, kernel-of-eigen (prime .0) wt z v h)
+        (v .0, list-eigenvector (prime .0) wt z v h)
 
-    module _ {v : List ℕ} (kernel : KernelVector p (suc n) t z v) where
+    module _ {v : List ℕ} (eigenvector : Eigenvector p (suc n) t z v) where
       abbrev α : Residue p (suc n)
-      α = (v, kernel .words)
+      α = (v, eigenvector .words)
 
       abbrev eigen : Eigen K p ζ α
-      eigen = eigen-of-kernel (prime .0) wt z kernel
+      eigen = ring-eigenvector (prime .0) wt z eigenvector
 
       pub power-is-constant : (a : ℕ) × (0 < a) × (a < p) × (power p t v (suc n) ≡ constant (suc n) a)
       unfolding residueField
@@ -80,23 +79,15 @@ module _ {p n : ℕ} {t : List ℕ} (prime : Prime p) (wt : Words p (suc n) t) (
       constant-root m a product below e =
           power-modulo K p prime vanishes (ring-proper prime wt) a m z below (eigen-constant-root F p prime vanishes ζ α eigen (suc n) m a product (power-numeral prime wt α (suc n) a e))
 
-      pub kernel-independent : Independent p (suc n) t v
+      pub eigenvector-independent : Independent p (suc n) t v
       unfolding residueField
-      kernel-independent f g wf wg e =
+      eigenvector-independent f g wf wg e =
           evaluate-injective F p prime vanishes ζ α (fixed-constant prime wt z) eigen (suc n) order-is wf wg
           (residue-path (sym (substitute-is (prime .0) wt α f) ∙ e ∙ substitute-is (prime .0) wt α g))
 
-  -- an eigenvector is a multiple c·a of another; the first coefficient that is not zero is 1 in both, so c = 1
-  pub eigenvector-unique : (z : ℕ) (a b : List ℕ) → Eigenvector p t z a → Eigenvector p t z b → b ≡ a
+  pub eigenvector-multiple : (z : ℕ) {v u : List ℕ} → Eigenvector p (suc n) t z v → Eigenvector p (suc n) t z u → (c : ℕ) × (0 < c) × (c < p) × (u ≡ scale p c v)
   unfolding residueField
-  eigenvector-unique z a b ha hb =
-      let ka : KernelVector p (suc n) t z a = kernel-of-eigenvector (prime .0) wt z ha in
-      let kb : KernelVector p (suc n) t z b = kernel-of-eigenvector (prime .0) wt z hb in
-      let α : Residue p (suc n) = (a, ka .words) in
+  eigenvector-multiple z {v} {u} hv hu =
       let (c, pos, below, e) =
-      eigen-multiple F p prime vanishes (numeral K z) α (eigen-of-kernel (prime .0) wt z ka) (b, kb .words) (eigen-of-kernel (prime .0) wt z kb) in
-      let multiple : b ≡ scale p c a = ap (λ u. u .0) e ∙ scale-is (prime .0) wt c α in
-      let one : c ≡ 1 =
-      sym (mod-eq-of-lt below) ∙ ap (λ x. x % p) (sym (mul-one c)) ∙ ap (λ x. c * x % p) (sym (ha .firstNonZero-is)) ∙ sym (firstNonZero-scale prime pos below (ka .words))
-      ∙ ap firstNonZero (sym multiple) ∙ hb .firstNonZero-is in
-      ap (λ u. u .0) (e ∙ ap (λ x. K .mul (numeral K x) α) one ∙ ap (λ x. K .mul x α) (numeral-one K) ∙ one-mul K α)
+      eigen-multiple F p prime vanishes (numeral K z) (v, hv .words) (ring-eigenvector (prime .0) wt z hv) (u, hu .words) (ring-eigenvector (prime .0) wt z hu) in
+      (c, pos, below, ap (λ w. w .0) e ∙ scale-is (prime .0) wt c (v, hv .words))

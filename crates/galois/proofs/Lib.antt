@@ -3,12 +3,15 @@ mod Eigenvector
 mod Independence
 pub mod Express
 pub mod Transfer
+pub mod Generators
 pub mod FirstNonZero
-pub mod KernelVector
+pub mod ResidueEigenvector
 pub mod ResidueConstants
 pub mod RootIndependent
 pub mod Irreducible
 pub mod NoDivisor
+pub mod Binomial
+pub mod Generates
 pub mod Alpha
-pub mod KernelDecides
 pub mod Root
+pub mod KernelDecides

@@ -21,10 +21,11 @@ use Rattle.quotient.proofs.Ring.{residueRing}
 use Rattle.quotient.proofs.Substitution.{Homomorphism, homomorphism-numeral, homomorphism-power}
 use Rattle.array.proofs.Words.{words-length}
 use Rattle.roots.specs.Roots.{OrderModulo}
+use Rattle.galois.specs.Eigenvector.{Eigenvector}
 use Rattle.algebra.proofs.Constants.{numeral-nonzero}
 use Rattle.galois.proofs.Eigenvector.{Eigen, eigenvalue-period, eigen-not-nilpotent}
 use Rattle.galois.proofs.Irreducible.{nonzero-count}
-use Rattle.galois.proofs.KernelVector.{KernelVector, eigen-of-kernel}
+use Rattle.galois.proofs.ResidueEigenvector.{ring-eigenvector}
 use Rattle.galois.proofs.ResidueConstants.{ring-proper, fixed-constant, constant-is-word, power-numeral}
 use Rattle.roots.proofs.Zeta.{constant-order, power-of-numeral}
 
@@ -38,19 +39,19 @@ module _ {A B : Type 0} {R : CommutativeRing A} {S : CommutativeRing B} {f : A �
       }
 
 module _ {p n : ℕ} {t : List ℕ} (prime : Prime p) (wt : Words p (suc n) t) (z : ℕ) (order : OrderModulo p (suc n) z) {v : List ℕ}
-    (kernel : KernelVector p (suc n) t z v) where
+    (eigenvector : Eigenvector p (suc n) t z v) where
   abbrev K : CommutativeRing (Residue p (suc n))
   K = residueRing (prime .0) wt
 
   abbrev α : Residue p (suc n)
-  α = (v, kernel .words)
+  α = (v, eigenvector .words)
 
   module _ (a : ℕ) (value : power p t v (suc n) ≡ constant (suc n) a) where
     -- a constant that is the n-th power of α is not 0
     pub constant-positive : 0 < a
     constant-positive =
         pos-of-ne-zero
-        (λ e. eigen-not-nilpotent K p (numeral K z) (fixed-constant prime wt z) (prime .0) α (eigen-of-kernel (prime .0) wt z kernel) (suc n)
+        (λ e. eigen-not-nilpotent K p (numeral K z) (fixed-constant prime wt z) (prime .0) α (ring-eigenvector (prime .0) wt z eigenvector) (suc n)
         (power-of-numeral K p prime (characteristic (prime .0) wt) z (suc n) 1 (order .0) ∙ numeral-one K)
         (power-numeral prime wt α (suc n) a value ∙ ap (numeral K) e ∙ numeral-zero K))
 
@@ -65,7 +66,7 @@ module _ {p n : ℕ} {t : List ℕ} (prime : Prime p) (wt : Words p (suc n) t) (
         let power-image : reduce (prime .0) wd (Ring.power K α (suc n) .0) ≡ numeral L a =
         ap (λ u. reduce (prime .0) wd (u .0)) (power-numeral prime wt α (suc n) a value) ∙ homomorphism-numeral φ a in
         let image : Eigen L p (numeral L z) (reduce (prime .0) wd v) =
-        eigen-image φ p z n α (eigen-of-kernel (prime .0) wt z kernel)
+        eigen-image φ p z n α (ring-eigenvector (prime .0) wt z eigenvector)
         (λ e. numeral-nonzero L p prime vanishes proper a constant-positive (constant-is-word prime wt α (suc n) a value) (sym power-image ∙ e)) in
         constant-order L p prime vanishes proper (suc n) z order .least (suc m) (omega arith) less
         (eigenvalue-period (residueField prime wd irreducible) p prime vanishes (numeral L z) (nonzeroResidues prime wd irreducible)

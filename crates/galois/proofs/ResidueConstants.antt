@@ -1,8 +1,10 @@
 -- The constants among the residues modulo T: the constant c as a list is c·1 in the ring, the p-th power fixes it, and 1 ≠ 0.
-use mathlib.Core.Path.{_≡_, sym, ap, _∙_, subst}
+use mathlib.Core.Path.{_≡_, refl, sym, ap, _∙_, subst}
 use mathlib.Core.List.{List, head-eq-of-cons-eq}
-use Prim.Native.Nat.{ℕ, suc, _<_}
+use Prim.Native.Nat.{ℕ, zero, suc, _≤_, _<_}
 use native.Mathlib.Nat.{mod-eq-of-lt}
+use native.Mathlib.Omega.{arith}
+use lib.ListN.{getD}
 use Rattle.algebra.specs.Prime.{Prime}
 use Rattle.algebra.specs.Ring.{CommutativeRing, numeral}
 use Rattle.algebra.specs.Ring as Ring
@@ -16,6 +18,11 @@ use Rattle.quotient.proofs.Reduction.{characteristic, zero-is, one-is}
 use Rattle.quotient.proofs.Ring.{residueRing, power-is, numeral-is}
 use Rattle.quotient.proofs.Substitution.{evaluate-zeros}
 use Rattle.quotient.proofs.Operations.{residue-path, power-words}
+
+pub constant-first : (n c : ℕ) → 1 ≤ n → getD (constant n c) 0 0 ≡ c
+unfolding constant
+constant-first zero c low = absurd (omega arith)
+constant-first (suc n) c low = refl
 
 pub constant-injective : (n a b : ℕ) → constant (suc n) a ≡ constant (suc n) b → a ≡ b
 unfolding constant
