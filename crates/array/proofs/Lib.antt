@@ -6,3 +6,4 @@ pub mod Below
 mod Largest
 pub mod Copying
 pub mod Ascending
+pub mod Filling

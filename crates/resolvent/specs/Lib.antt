@@ -1,0 +1,2 @@
+-- What the contracts on the resolvent cite.
+pub mod Sums

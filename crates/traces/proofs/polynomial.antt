@@ -1,0 +1,3 @@
+-- The laws on which the proofs of `polynomial` rest.
+mod RowLoop
+mod Sizes

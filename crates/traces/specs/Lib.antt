@@ -1,0 +1,2 @@
+-- What the contracts on traces cite.
+pub mod Sums
