@@ -9,7 +9,7 @@ ghost use Rattle.quotient.specs.Residue.{constant, sum, residueOfX};
 ghost use Rattle.array.specs.Array.{Holds};
 
 // Whether u = v.
-fn same(n: usize, u: &[u64; 16], v: &[u64; 16]) -> bool
+pub fn same(n: usize, u: &[u64; 16], v: &[u64; 16]) -> bool
     requires { ⌜ (n ≤ 16) × (length (now u) ≡ 16) × (length (now v) ≡ 16) ⌝ }
     ensures { λ r. ⌜ r ≡ equal (take n (now (u .entry))) (take n (now (v .entry))) ⌝ }
 {

@@ -1,3 +1,2 @@
 -- The laws on which the proofs of `eigenvector` rest.
-mod DiagonalScan
-mod FrobeniusSystem
+mod Square

@@ -1,22 +1,31 @@
 -- The eigenvector of the p-th power as the code finds it: in the kernel of u ↦ u^p − z·u.
 --   Shifted p n z m c           the matrix c is m − z: z is subtracted on the diagonal
+--   Stretched p n z m u         u is not 0, and the matrix m takes it to z·u
 --   Kernel p n t z regular v    regular: only 0 satisfies u^p = z·u modulo T; else v satisfies it and is not 0
---   AlphaFound p n t z found a b    found: T has no monic divisor of degree 1 to n − 1, and then a is α and b the constant α^n
+--   Divided p n t v root u b    the array u holds v divided by its first coefficient that is not zero; root: its n-th power modulo T is the constant b
+--   EigenvectorFound p n t z found v b   found: T has no monic divisor of degree 1 to n − 1, and then the array v holds an eigenvector whose first
+--                                        coefficient that is not zero is 1, and b is its n-th power
 use mathlib.Core.Path.{_≡_}
 use mathlib.Core.Bool.{Bool, true, false, not}
 use mathlib.Core.List.{List}
 use Prim.Native.Nat.{ℕ, _+_, _-_, _%_, _<_}
 use lib.ListN.{length, take}
-use Rattle.array.specs.Array.{entry, padded, Holds}
+use Rattle.array.specs.Array.{entry, Holds}
+use Rattle.modular.specs.Inverse.{inverse}
 use Rattle.quotient.specs.DivisorTest.{hasDivisor}
 use Rattle.array.specs.Words.{Words}
 use Rattle.quotient.specs.Residue.{scale, constant, power}
-use Rattle.galois.specs.Eigenvector.{alpha, powerConstant}
+use Rattle.matrix.specs.Matrix.{matrixProduct}
+use Rattle.galois.specs.Eigenvector.{firstNonZero, Normalised}
 
 pub record Shifted (p n z : ℕ) (m c : List ℕ) : Type 0 where
   pub size : length c ≡ 256
   pub diagonal : (i : ℕ) → i < n → entry c i i ≡ (entry m i i + (p - z)) % p
   pub others : (i j : ℕ) → i < n → j < n → (j ≡ i → ⊥) → entry c i j ≡ entry m i j
+
+pub record Stretched (p n z : ℕ) (m u : List ℕ) : Type 0 where
+  pub not-zero : u ≡ constant n 0 → ⊥
+  pub product-is : matrixProduct p n m u ≡ scale p z u
 
 pub record Kernel (p n : ℕ) (t : List ℕ) (z : ℕ) (regular : Bool) (v : List ℕ) : Type 0 where
   pub holds : Holds p n v
@@ -24,7 +33,14 @@ pub record Kernel (p n : ℕ) (t : List ℕ) (z : ℕ) (regular : Bool) (v : Lis
   pub not-zero : regular ≡ false → take n v ≡ constant n 0 → ⊥
   pub power-is : regular ≡ false → power p t (take n v) p ≡ scale p z (take n v)
 
-pub record AlphaFound (p n : ℕ) (t : List ℕ) (z : ℕ) (found : Bool) (a : List ℕ) (b : ℕ) : Type 0 where
+pub record Divided (p n : ℕ) (t v : List ℕ) (root : Bool) (u : List ℕ) (b : ℕ) : Type 0 where
+  pub holds : Holds p n u
+  pub below : b < p
+  pub quotient-is : take n u ≡ scale p (inverse p (firstNonZero v)) v
+  pub if-constant : root ≡ true → power p t (take n u) n ≡ constant n b
+  pub if-other : root ≡ false → (c : ℕ) → power p t (take n u) n ≡ constant n c → ⊥
+
+pub record EigenvectorFound (p n : ℕ) (t : List ℕ) (z : ℕ) (found : Bool) (v : List ℕ) (b : ℕ) : Type 0 where
   pub decides : found ≡ not (hasDivisor p t)
-  pub alpha-is : found ≡ true → a ≡ padded (alpha p t z)
-  pub constant-is : found ≡ true → b ≡ powerConstant p t (alpha p t z)
+  pub holds : found ≡ true → Holds p n v
+  pub normalised : found ≡ true → Normalised p n t z (take n v) b

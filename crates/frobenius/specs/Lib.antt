@@ -1,2 +1,3 @@
--- What the contracts on kernels and eigenvectors cite.
+-- What the contracts on kernels, eigenvectors and matrices of powers cite.
 pub mod Kernel
+pub mod Image

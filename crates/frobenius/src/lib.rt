@@ -1,7 +1,11 @@
 // Eigenvectors of u ↦ u^p on residues, and polynomials in a residue, by linear systems on arrays of 16 words.
-//   eigenvector   α, which also decides whether a modulus has a proper divisor
-//   express       the polynomial that takes a residue to X
+//   kernel        the residues with u^p = z·u
+//   eigenvector   an eigenvector, which also decides whether a modulus has a proper divisor
+//   scaling       its multiple whose n-th power is a given number
+//   image         the polynomial that takes one residue to X, at another residue
 //   vector        multiples of residues, and division by the first word that is not 0
 pub mod eigenvector;
-pub mod express;
+pub mod image;
+mod kernel;
+pub mod scaling;
 pub mod vector;

@@ -27,7 +27,7 @@ pub fn scale(p: u64, n: usize, c: u64, u: &[u64; 16]) -> [u64; 16]
 }
 
 // The first word that is not 0, and 0 where there is none.
-fn first_non_zero(p: u64, n: usize, u: &[u64; 16]) -> u64
+pub fn first_non_zero(p: u64, n: usize, u: &[u64; 16]) -> u64
     requires { ⌜ n ≤ 16 ⌝ }
     requires { ⌜ Holds p n (now u) ⌝ }
     ensures { λ r. ⌜ r ≡ firstNonZero (take n (now (u .entry))) ⌝ }
@@ -49,6 +49,7 @@ pub fn normalise(p: u64, n: usize, u: &[u64; 16]) -> [u64; 16]
     requires { ⌜ Holds p n (now u) ⌝ }
     requires { ⌜ (take n (now u) ≡ constant n 0 → ⊥) ⌝ }
     ensures { λ r. ⌜ r ≡ padded (scaleOf p (inverseOf p (firstNonZero (take n (now (u .entry))))) (take n (now (u .entry)))) ⌝ }
+    ensures { λ r. ⌜ Holds p n r ⌝ }
 {
     scale(p, n, inverse(p, first_non_zero(p, n, u)), u)
 }

@@ -2,7 +2,7 @@
 --   scaledWord p c u k   word k of c·u
 --   ZerosBefore n u i    no word of u before word i is different from 0
 --   Constant n u i       no word of u from word 1 to word i − 1 is different from 0
-use mathlib.Core.Path.{_≡_, refl, sym, ap, ap₂, _∙_}
+use mathlib.Core.Path.{_≡_, refl, sym, ap, _∙_}
 use mathlib.Core.Bool.{true, false, false≢true, true≢false}
 use mathlib.Core.List.{List, [], _∷_}
 use Prim.Native.Nat.{ℕ, zero, suc, _+_, _*_, _%_, _^_, _≤_, _<_}
@@ -14,13 +14,14 @@ use lib.Seq.{drop-cons, getD-take, ext-getD}
 use Rattle.algebra.specs.Prime.{Prime}
 use Rattle.modular.specs.Inverse.{inverse}
 use Rattle.quotient.specs.Residue.{scale, constant}
-use Rattle.quotient.proofs.Operations.{constant-length}
+use Rattle.quotient.proofs.Operations.{constant-length, scale-words}
 use Rattle.array.proofs.Words.{words-length}
 use Rattle.array.specs.Array.{padded, Holds}
-use Rattle.array.proofs.Padded.{holds-word, array-fits, painted-table}
+use Rattle.array.proofs.Padded.{holds-is, holds-word, array-fits, painted-table}
 use Rattle.array.proofs.Painted.{painted, table, painted-turn}
 use Rattle.galois.specs.Eigenvector.{firstNonZero}
 use Rattle.algebra.specs.Search.{Decides}
+use Rattle.galois.proofs.ResidueConstants.{constant-first}
 use Rattle.galois.proofs.FirstNonZero.{firstNonZero-zero, firstNonZero-nonzero, firstNonZero-nil, firstNonZero-positive, firstNonZero-below}
 
 unfoldable pub scaledWord : ℕ → ℕ → List ℕ → ℕ → ℕ
@@ -79,6 +80,9 @@ module _ (p n : ℕ) (u : List ℕ) where
 pub normalised-is : (p i a : ℕ) (u r : List ℕ) → a ≡ firstNonZero u → i ≡ inverse p a → r ≡ padded (scale p i u) → r ≡ padded (scale p (inverse p (firstNonZero u)) u)
 normalised-is p i a u r ea ei er = er ∙ ap (λ k. padded (scale p k u)) (ei ∙ ap (inverse p) ea)
 
+pub normalised-holds : (p n i : ℕ) (u r : List ℕ) → Holds p n u → r ≡ padded (scale p i (take n u)) → Holds p n r
+normalised-holds p n i u r h e = holds-is e (scale-words i (h .words))
+
 pub record Constant (n : ℕ) (u : List ℕ) (i : ℕ) : Type 0 where
   pub from : 1 ≤ i
   pub to : i ≤ n
@@ -89,11 +93,6 @@ unfolding constant
 constant-word zero c j low high = absurd (omega arith)
 constant-word (suc n) c zero low high = absurd (omega arith)
 constant-word (suc n) c (suc j) low high = getD-replicate n j 0 0 (omega arith)
-
-constant-first : (n c : ℕ) → 1 ≤ n → getD (constant n c) 0 0 ≡ c
-unfolding constant
-constant-first zero c low = absurd (omega arith)
-constant-first (suc n) c low = refl
 
 module _ (p n : ℕ) (u : List ℕ) where
   pub constant-start : 1 ≤ n → Constant n u 1

@@ -1,20 +1,38 @@
--- `eigenvector`: the kernel has only 0, or a vector that decides.
+-- `eigenvector`: for n = 2 by completing the square, where that passes the test.
 use borrow.Author.Needs.{needs}
-use Rattle.frobenius.proofs.KernelAnswer.{answer-none, kernel-singular}
+use Rattle.frobenius.proofs.eigenvector.Square.{odd-prime}
 use Rattle.frobenius.proofs.eigenvector.eigenvector.Statement.{statement}
 use Rattle.frobenius.proofs.eigenvector.eigenvector.Tie as tie
 
-kernel-requires : tie.Need-kernel-requires
-kernel-requires c κs = search needs
+by-kernel-requires : tie.Need-by-kernel-requires
+by-kernel-requires c κs = search needs
 
 returns : tie.Need-returns
-returns c = (search answer-none, search needs)
+returns c = search needs
 
-from-kernel-requires : tie.Need-from-kernel-requires
-from-kernel-requires c κs = (search needs, (search needs, (search needs, search kernel-singular)))
+completed-square-requires : tie.Need-completed-square-requires
+completed-square-requires c κs = ((search odd-prime, search needs), search needs)
+
+by-power-requires : tie.Need-by-power-requires
+by-power-requires c κs = search needs
 
 returns-2 : tie.Need-returns-2
-returns-2 c = search needs
+returns-2 c = (search (c .before .by-power .ensures (c .if2 .taken)), search needs)
+
+by-kernel-requires-2 : tie.Need-by-kernel-requires-2
+by-kernel-requires-2 c κs = search needs
+
+returns-3 : tie.Need-returns-3
+returns-3 c = search needs
 
 pub eigenvector-spec : {M : Type 1} → statement M
-eigenvector-spec = tie.close (tie.spec kernel-requires returns from-kernel-requires returns-2)
+eigenvector-spec =
+    tie.close
+    (tie.spec
+    by-kernel-requires
+    returns
+    completed-square-requires
+    by-power-requires
+    returns-2
+    by-kernel-requires-2
+    returns-3)

@@ -1,6 +1,6 @@
 -- `normalise`: the first word that is not 0 has an inverse.
 use borrow.Author.Needs.{needs}
-use Rattle.frobenius.proofs.vector.VectorScan.{firstNonZero-positive-word, firstNonZero-small-word, normalised-is}
+use Rattle.frobenius.proofs.vector.VectorScan.{firstNonZero-positive-word, firstNonZero-small-word, normalised-is, normalised-holds}
 use Rattle.frobenius.proofs.vector.normalise.Statement.{statement}
 use Rattle.frobenius.proofs.vector.normalise.Tie as tie
 
@@ -14,7 +14,7 @@ scale-requires : tie.Need-scale-requires
 scale-requires c κs = search needs
 
 returns : tie.Need-returns
-returns c = search normalised-is
+returns c = (search normalised-is, search normalised-holds)
 
 pub normalise-spec : {M : Type 1} → statement M
 normalise-spec = tie.close (tie.spec first-non-zero-requires inverse-requires scale-requires returns)

@@ -8,7 +8,9 @@ use native.Mathlib.Nat.{mod-eq-of-lt, zero-mod}
 use native.Mathlib.Omega.{arith}
 use lib.ListN.{getD, take, getD-replicate}
 use lib.Seq.{getD-take}
+use Rattle.algebra.specs.Lists.{equal}
 use Rattle.algebra.specs.Prime.{Prime}
+use Rattle.algebra.proofs.Equality.{of-equal}
 use Rattle.array.specs.Array.{rowProduct, padded, Holds}
 use Rattle.linear.specs.System.{Singular, Outcome}
 use Rattle.array.specs.Words.{Words}
@@ -17,10 +19,11 @@ use Rattle.quotient.proofs.Substitution.{zero-substitute}
 use Rattle.quotient.proofs.Operations.{constant-words, constant-zero, substitute-words, residueOfX-words}
 use Rattle.array.proofs.Words.{words-same}
 use Rattle.array.proofs.Padded.{words-at, front-is, holds-is}
-use Rattle.matrix.specs.Matrix.{Powers}
-use Rattle.matrix.proofs.PowerMatrix.{row-substitutes}
-use Rattle.galois.specs.Express.{express, Independent}
+use Rattle.matrix.specs.Matrix.{Powers, matrixProduct}
+use Rattle.matrix.proofs.PowerMatrix.{row-substitutes, product-substitutes}
+use Rattle.galois.specs.Express.{Independent}
 use Rattle.galois.proofs.Express.{express-unique}
+use Rattle.frobenius.specs.Image.{Expression, Image}
 
 module _ {p n : ℕ} {t s m : List ℕ} (big : 2 ≤ p) (wt : Words p n t) (ws : Words p n s) (powers : Powers p n t s m) where
   -- the value of f(S) at a solution
@@ -49,16 +52,42 @@ module _ {p n : ℕ} {t s m : List ℕ} (big : 2 ≤ p) (wt : Words p n t) (ws :
         by-answer true e = solution-value (outcome .holds .words) (take n b) (hb .words) (λ i l. outcome .if-regular e .solves i l ∙ word i l)
         by-answer false e = absurd (not-singular (outcome .holds .words) (outcome .if-singular e))
 
--- the same of arrays that hold T and S, with the right side X
+-- the right side is X
 
-module _ (p n : ℕ) (t s m : List ℕ) (prime : Prime p) (ht : Holds p n t) (hs : Holds p n s) (powers : Powers p n (take n t) (take n s) m) where
-  pub right-side : (x : List ℕ) → x ≡ padded (residueOfX p (take n t)) → Holds p n x
-  right-side x e = holds-is e (residueOfX-words (prime .0) (ht .words))
+module _ (p n : ℕ) (t : List ℕ) (prime : Prime p) (ht : Holds p n t) where
+  abbrev T : List ℕ
+  T = take n t
 
-  pub expressed : Independent p n (take n t) (take n s) → (x : List ℕ) → x ≡ padded (residueOfX p (take n t)) → (r : Bool) (v : List ℕ) → Outcome p n m x r v
-      → v ≡ padded (express p (take n t) (take n s))
-  expressed independent x e r v outcome =
-      let big : 2 ≤ p = prime .0 in
-      let value : substitute p (take n t) (take n s) (take n v) ≡ residueOfX p (take n t) =
-      solved-is big (ht .words) (hs .words) powers independent x r v (right-side x e) outcome ∙ front-is e (residueOfX-words big (ht .words)) in
-      outcome .holds .zeros ∙ ap padded (sym (express-unique big (ht .words) (hs .words) independent (take n v) (outcome .holds .words) value))
+  x-words : Words p n (residueOfX p T)
+  x-words = residueOfX-words (prime .0) (ht .words)
+
+  pub right-side : (x : List ℕ) → x ≡ padded (residueOfX p T) → Holds p n x
+  right-side x e = holds-is e x-words
+
+  pub solved : (m x : List ℕ) → x ≡ padded (residueOfX p T) → (r : Bool) (v : List ℕ) → Outcome p n m x r v → Expression p n T m v
+  solved m x e r v outcome =
+      record {
+        holds = outcome .holds;
+        expression-is = λ a1 w1 powers independent.
+            sym (express-unique (prime .0) (ht .words) w1 independent (take n v) (outcome .holds .words)
+            (solved-is (prime .0) (ht .words) w1 powers independent x r v (right-side x e) outcome ∙ front-is e x-words));
+      }
+
+  -- a guess whose value is X
+  pub guessed : (m g v : List ℕ) → Holds p n g → v ≡ padded (matrixProduct p n m (take n g)) → (r : Bool) → r ≡ equal (take n v) (residueOfX p T) → r ≡ true → Expression p n T m g
+  guessed m g v hg ev r er e =
+      record {
+        holds = hg;
+        expression-is = λ a1 w1 powers independent.
+            let value : matrixProduct p n m (take n g) ≡ substitute p T a1 (take n g) = product-substitutes (prime .0) (ht .words) w1 powers (hg .words) in
+            sym (express-unique (prime .0) (ht .words) w1 independent (take n g) (hg .words)
+            (sym (front-is (ev ∙ ap padded value) (substitute-words (prime .0) (ht .words) w1 (hg .words))) ∙ of-equal (take n v) (residueOfX p T) (sym er ∙ e)));
+      }
+
+  -- its value at another residue
+  pub image-is : (m1 m2 f w : List ℕ) → Expression p n T m1 f → w ≡ padded (matrixProduct p n m2 (take n f)) → Image p n T m1 m2 w
+  image-is m1 m2 f w h ew =
+      record {
+        image-is = λ a1 t2 a2 w1 powers1 independent w2 wa2 powers2.
+            ew ∙ ap padded (product-substitutes (prime .0) w2 wa2 powers2 (h .holds .words) ∙ ap (substitute p t2 a2) (h .expression-is a1 w1 powers1 independent));
+      }

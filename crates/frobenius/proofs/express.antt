@@ -1,2 +1,0 @@
--- The laws on which the proofs of `express` rest.
-mod PowerSystem

@@ -1,0 +1,2 @@
+-- The law on which the proof of `scaling` rests.
+mod Scaled
