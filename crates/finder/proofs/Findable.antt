@@ -1,12 +1,14 @@
--- The test `findable`, what 5 to 7 leave, and the finder's number for two models.
+-- The test `findable`, what 5 to 7 leave, the finder's number for two models, and that p and n are then admissible.
 use mathlib.Core.Path.{_≡_}
 use mathlib.Core.Bool.{true, false, not}
 use mathlib.Core.List.{List, [], _∷_}
 use Prim.Native.Nat.{ℕ, _-_, _%_}
+use native.Mathlib.Omega.{arith}
 use borrow.Author.Tests.{eq-eqb, ne-eqb, eqb-true, not-false}
 use lib.ListN.{length}
 use Rattle.quotient.specs.DivisorTest.{hasDivisor}
-use Rattle.refusal.specs.Models.{Models}
+use Rattle.refusal.specs.Models.{Model, Models}
+use Rattle.roots.specs.Roots.{Admissible}
 use Rattle.refusal.proofs.Refusal.{refuse-none, given-sent}
 use Rattle.refusal.proofs.Models.{models-sent}
 use Rattle.finder.specs.Finder.{Findable, findable, refuseFind, findNumber}
@@ -36,3 +38,10 @@ pub find-models : (p n : ℕ) (t1 t2 : List ℕ) → Models p n t1 t2 → (lentS
 unfolding findNumber
 find-models p n t1 t2 m lentS lentR s r =
     given-sent p n (t1 ∷ t2 ∷ lentS ∷ lentR ∷ []) (t1 ∷ t2 ∷ []) _ (models-sent p n t1 t2 (lentS ∷ lentR ∷ []) m (s, (r, tt)))
+
+pub model-admissible : (p n : ℕ) (t : List ℕ) → Model p n t → Findable p n → Admissible p n
+model-admissible p n t m divides =
+    record { prime = m .prime; small = omega (arith, m .small); low = m .degree .0; high = m .degree .1; divides = divides }
+
+pub models-admissible : (p n : ℕ) (t1 t2 : List ℕ) → Models p n t1 t2 → Findable p n → Admissible p n
+models-admissible p n t1 t2 m = model-admissible p n t1 record { prime = m .prime; small = m .small; degree = m .degree; modulus = m .modulus1 }

@@ -1,6 +1,6 @@
 -- The proof of demand 3, as specs/Theorem.antt states it. The checker's half is the theorem of the crate pair. The finder's answer is 0 exactly when
 -- none of its refusals applies; for two models and n that divides p − 1 only 6 and 7 are left, which test for proper divisors, and the test is exact.
--- Without those the searches find the chosen pair, it satisfies the congruences, and the checker accepts it.
+-- Without those the searches find the chosen pair, it satisfies the congruences, and the checker accepts it; so it does with every other scaling's pair.
 --   Returned p n t1 t2   what the answer 0 says of two models
 --   decided              where n divides p − 1, what 6 and 7 say is the answer
 use mathlib.Core.Path.{_≡_, refl, sym, ap, subst₂, _∙_}
@@ -19,9 +19,11 @@ use Rattle.quotient.specs.DivisorTest.{hasDivisor}
 use Rattle.refusal.proofs.Refusal.{sent-given}
 use Rattle.quotient.proofs.Decision.{test-has-divisor, has-divisor-test, test-irreducible, irreducible-test}
 use Rattle.finder.specs.Finder.{Findable, refuseFind, findS, findR, findNumber, findOutputS, findOutputR}
+use Rattle.finder.specs.Stored.{EveryScalingAccepted}
 use Rattle.finder.specs.Theorem.{ChosenPair, Demand3Theorem}
 use Rattle.finder.proofs.Values.{PairLaws, pair-laws}
-use Rattle.finder.proofs.Findable.{findable-true, none-apply, find-models}
+use Rattle.finder.proofs.ChosenPair.{PairHolds}
+use Rattle.finder.proofs.Findable.{findable-true, none-apply, find-models, models-admissible}
 
 record Returned (p n : ℕ) (t1 t2 : List ℕ) : Type 0 where
   divides : Findable p n
@@ -77,17 +79,18 @@ module _ (p n : ℕ) (t1 t2 : List ℕ) (models : Models p n t1 t2) (lentS lentR
 
 module _ (p n : ℕ) (t1 t2 : List ℕ) (models : Models p n t1 t2) where
   laws : PairLaws p n t1 t2
-  laws = pair-laws p (models .prime) n (models .degree .0) (models .degree .1) t1 t2 (models .modulus1) (models .modulus2)
+  laws = pair-laws p (models .prime) n (models .degree .0) t1 t2 (models .modulus1) (models .modulus2)
+
+  accepted : {s r : List ℕ} → PairHolds p n t1 t2 s r → checkNumber p n t1 t2 s r ≡ 0
+  accepted {s} {r} h =
+      checker-theorem p n t1 t2 s r .1 record { models = models; words-s = h .words .0; words-r = h .words .1 } (h .irreducible1) (h .irreducible2) (h .congruences)
 
   -- the pair that is found is chosen, and the checker accepts it
   found-accepted : Findable p n → (HasDivisor p t1 → ⊥) → (HasDivisor p t2 → ⊥)
       → ChosenPair p n t1 t2 (findS p n t1 t2) (findR p n t1 t2) × (checkNumber p n t1 t2 (findS p n t1 t2) (findR p n t1 t2) ≡ 0)
   found-accepted divides irreducible1 irreducible2 =
-      let h : ChosenPair p n t1 t2 (findS p n t1 t2) (findR p n t1 t2) = laws .chosen divides irreducible1 irreducible2 in (
-        h,
-        checker-theorem p n t1 t2 (findS p n t1 t2) (findR p n t1 t2) .1 record { models = models; words-s = laws .words h .0; words-r = laws .words h .1 } irreducible1 irreducible2
-            (laws .congruences h),
-      )
+      let h : ChosenPair p n t1 t2 (findS p n t1 t2) (findR p n t1 t2) = laws .chosen (models-admissible p n t1 t2 models divides) irreducible1 irreducible2 in
+      (h, accepted (laws .chosen-pair h))
 
 -- where 5 to 7 do not apply to two models, the checker accepts the pair
 pub accepted-pair : (p n : ℕ) (t1 t2 : List ℕ) → Models p n t1 t2 → refuseFind p n t1 t2 ≡ 0 → checkNumber p n t1 t2 (findS p n t1 t2) (findR p n t1 t2) ≡ 0
@@ -121,3 +124,6 @@ demand-3 p n t1 t2 models =
           (found-accepted p n t1 t2 models (c .divides) (c .irreducible1) (c .irreducible2));
       only-one = laws p n t1 t2 models .only-one;
     }
+
+pub every-scaling-accepted : EveryScalingAccepted
+every-scaling-accepted p n t1 t2 models s r h = accepted p n t1 t2 models (laws p n t1 t2 models .scaled-pair h)

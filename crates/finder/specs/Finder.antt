@@ -1,12 +1,12 @@
--- The finder's values (document 01, "The finder"), each by search over what its sentence ranges over, in the order of the document. Those
--- that no other name is made of stand in Roots.antt of the crate roots (zeta, rootOfRatio) and in Eigenvector.antt and Express.antt of galois.
---   zeta p n                the smallest integer from 1 to p − 1 with ζ^n = 1 mod p and no ζ^m = 1 for 1 ≤ m < n
---   alpha p t z             not zero, α^p = ζ·α modulo T, and its first coefficient that is not zero is 1
---   powerConstant p t a     the constant coefficient of a^n modulo T; α^n has no other
---   rootOfRatio p n a1 a2   c, the smallest n-th root of a1/a2: the smallest integer from 1 to p − 1 with c^n·a2 = a1 mod p
---   express p t a           the polynomial P of degree below n with P(a) = X modulo T
---   findS p n t1 t2         S = P1(c·α2) mod T2, with P1(α1) = X mod T1
---   findR p n t1 t2         the one polynomial R of degree below n with R(S) = X mod T2
+-- The finder's values (document 01, "The finder", with the normalisation of document 02, S-6), each by search over what its sentence ranges over, in the order of
+-- the documents. Those that no other name is made of stand in Roots.antt of the crate roots (zeta, radicand) and in Eigenvector.antt and Express.antt of galois.
+--   zeta p n            the smallest integer from 1 to p − 1 with ζ^n = 1 mod p and no ζ^m = 1 for 1 ≤ m < n
+--   radicand p n z      a, the smallest integer from 1 to p − 1 with a^((p − 1)/n) = ζ mod p
+--   alpha p n t z a     not zero, α^p = ζ·α and α^n = a modulo T; among its n scalings the one whose first coefficient that is not zero is smallest
+--   generator p n t     α of the model T: it depends on p, n and T only
+--   express p t a       the polynomial P of degree below n with P(a) = X modulo T
+--   findS p n t1 t2     S = P1(c·α2) mod T2, with P1(α1) = X mod T1; c is 1
+--   findR p n t1 t2     the one polynomial R of degree below n with R(S) = X mod T2
 --   Findable p n            what the finder takes: n divides p − 1; findable is the same as a test
 --   refuseFind p n t1 t2    what comes after 4 for the finder: 5 where n is not findable, 6 and 7 where T1 and T2 have a monic divisor of
 --                           degree 1 to n − 1; 0 otherwise
@@ -18,17 +18,16 @@ use Prim.Native.Nat.{ℕ, _-_, _%_}
 use lib.Dec.{eqb}
 use Rattle.refusal.specs.Refusal.{refuse, refuseSent, written}
 use Rattle.quotient.specs.DivisorTest.{hasDivisor}
-use Rattle.quotient.specs.Residue.{scale, substitute}
-use Rattle.roots.specs.Roots.{zeta, rootOfRatio}
-use Rattle.galois.specs.Eigenvector.{alpha, powerConstant}
+use Rattle.quotient.specs.Residue.{substitute}
+use Rattle.roots.specs.Roots.{zeta, radicand}
+use Rattle.galois.specs.Eigenvector.{alpha}
 use Rattle.galois.specs.Express.{express}
 
+unfoldable pub generator : ℕ → ℕ → List ℕ → List ℕ
+generator p n t = alpha p n t (zeta p n) (radicand p n (zeta p n))
+
 unfoldable pub findS : ℕ → ℕ → List ℕ → List ℕ → List ℕ
-findS p n t1 t2 =
-    let a1 = alpha p t1 (zeta p n) in
-    let a2 = alpha p t2 (zeta p n) in
-    let c = rootOfRatio p n (powerConstant p t1 a1) (powerConstant p t2 a2) in
-    substitute p t2 (scale p c a2) (express p t1 a1)
+findS p n t1 t2 = substitute p t2 (generator p n t2) (express p t1 (generator p n t1))
 
 unfoldable pub findR : ℕ → ℕ → List ℕ → List ℕ → List ℕ
 findR p n t1 t2 = express p t2 (findS p n t1 t2)

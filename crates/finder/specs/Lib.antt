@@ -1,4 +1,6 @@
--- The finder: its values, its answer, and demand 3.
+-- The finder: its values, its answer, demand 3, the triangle, and stored pairs.
 pub mod Finder
 pub mod Construct
 pub mod Theorem
+pub mod Triangle
+pub mod Stored

@@ -5,44 +5,44 @@
 -- (a) an accepted pair's two maps preserve sums, products and one, and each undoes the other on every residue;
 -- (b) if n divides p − 1, the finder, lent two lists of n words, returns a pair exactly when neither modulus has a monic divisor of
 --     degree 1 to n − 1, refuses with 6 exactly when T1 has one, and with 7 exactly when T1 has none and T2 has one; the pair that it
---     returns is the one of Algorithm 2.1 with document 01's choices, and the checker accepts it.
+--     returns is the one of Algorithm 2.1 with the documents' choices, and the checker accepts it.
 --   Models p n t1 t2 (of refusal)      p is a prime up to 65,535, n is 1 to 16, and t1 and t2 are n words below p each
 --   Smallest P p k (of algebra)        k is the smallest integer from 1 to p − 1 that satisfies P
---   Eigenvector p t z a (of galois)    a is not zero, a^p = z·a modulo T, and its first coefficient that is not zero is 1
+--   Alpha p n t z a u (of galois)      u is not zero, u^p = z·u and u^n = a modulo T, and of all such residues its first coefficient that is not zero is smallest
 --   Findable p n (of Finder.antt)      n divides p − 1
---   ChosenPair p n t1 t2 s r    S and R are the polynomials of Algorithm 2.1 with the choices of document 01
+--   PairOf p n t1 t2 x y s r    S = P1(y) modulo T2 with P1(x) = X modulo T1, and R(S) = X modulo T2; P1 and R of degree below n
+--   ChosenPair p n t1 t2 s r    S and R are the polynomials of Algorithm 2.1 with the choices of document 01, normalised as document 02, S-6, says
 use mathlib.Core.Path.{_≡_}
 use mathlib.Core.List.{List}
 use mathlib.Core.Logic.{_↔_}
-use Prim.Native.Nat.{ℕ, _*_, _%_, _^_, _≤_, _<_}
+use Prim.Native.Nat.{ℕ, _-_, _/_, _%_, _^_, _≤_, _<_}
 use lib.ListN.{length}
 use Rattle.pair.specs.Pair.{checkNumber}
 use Rattle.refusal.specs.Models.{Models}
 use Rattle.pair.specs.Theorem.{Isomorphisms}
 use Rattle.quotient.specs.Divisor.{HasDivisor}
 use Rattle.array.specs.Words.{Words}
-use Rattle.quotient.specs.Residue.{scale, constant, power, residueOfX, substitute}
+use Rattle.quotient.specs.Residue.{residueOfX, substitute}
 use Rattle.algebra.specs.Search.{Smallest}
-use Rattle.galois.specs.Eigenvector.{Eigenvector}
+use Rattle.galois.specs.Eigenvector.{Alpha}
 use Rattle.finder.specs.Finder.{Findable, findNumber, findOutputS, findOutputR}
+
+pub record PairOf (p n : ℕ) (t1 t2 x y s r : List ℕ) : Type 0 where
+  pub p1 : List ℕ
+  pub p1-is : Words p n p1 × (substitute p t1 x p1 ≡ residueOfX p t1)
+  pub s-is : s ≡ substitute p t2 y p1
+  pub r-is : Words p n r × (substitute p t2 s r ≡ residueOfX p t2)
 
 pub record ChosenPair (p n : ℕ) (t1 t2 s r : List ℕ) : Type 0 where
   pub z : ℕ
+  pub a : ℕ
   pub alpha1 : List ℕ
   pub alpha2 : List ℕ
-  pub a1 : ℕ
-  pub a2 : ℕ
-  pub c : ℕ
-  pub p1 : List ℕ
   pub z-is : Smallest (λ k. (k ^ n % p ≡ 1) × ((m : ℕ) → 1 ≤ m → m < n → k ^ m % p ≡ 1 → ⊥)) p z
-  pub alpha1-is : Eigenvector p t1 z alpha1
-  pub alpha2-is : Eigenvector p t2 z alpha2
-  pub a1-is : power p t1 alpha1 n ≡ constant n a1
-  pub a2-is : power p t2 alpha2 n ≡ constant n a2
-  pub c-is : Smallest (λ k. k ^ n * a2 % p ≡ a1) p c
-  pub p1-is : Words p n p1 × (substitute p t1 alpha1 p1 ≡ residueOfX p t1)
-  pub s-is : s ≡ substitute p t2 (scale p c alpha2) p1
-  pub r-is : Words p n r × (substitute p t2 s r ≡ residueOfX p t2)
+  pub a-is : Smallest (λ k. k ^ ((p - 1) / n) % p ≡ z) p a
+  pub alpha1-is : Alpha p n t1 z a alpha1
+  pub alpha2-is : Alpha p n t2 z a alpha2
+  pub pair-is : PairOf p n t1 t2 alpha1 alpha2 s r
 
 pub record Demand3 (p n : ℕ) (t1 t2 : List ℕ) : Type 0 where
   pub accepted : (s r : List ℕ) → checkNumber p n t1 t2 s r ≡ 0 → Isomorphisms p n t1 t2 s r

@@ -1,44 +1,21 @@
-// The finder on arrays of 16 words: Algorithm 2.1 with the choices of document 01.
+// The finder on arrays of 16 words: Algorithm 2.1 with the choices of document 01, normalised as document 02, S-6, says.
 ghost use mathlib.Core.Bool.{true};
 ghost use mathlib.Core.Path.{_≡_};
 ghost use Prim.Native.Nat.{_^_, _≤_, _<_};
 ghost use lib.ListN.{length, take};
 ghost use Rattle.algebra.specs.Prime.{Prime};
-ghost use Rattle.array.specs.Array.{padded, Holds};
+ghost use Rattle.array.specs.Array.{Holds};
 ghost use Rattle.finder.specs.Construct.{Choices, FoundPair};
 ghost use Rattle.roots.specs.Roots.{zeta as zetaOf, Admissible};
-ghost use Rattle.finder.specs.Finder.{findS};
-ghost use Rattle.frobenius.specs.Kernel.{AlphaFound};
-use frobenius::eigenvector::Alpha;
+ghost use Rattle.frobenius.specs.Kernel.{EigenvectorFound};
+use frobenius::eigenvector::Normalised;
 use frobenius::eigenvector::eigenvector;
-use frobenius::express::express;
-use frobenius::vector::scale;
-use residue::ring::substitute;
-use roots::root::root_of_ratio;
+use frobenius::image::image;
+use frobenius::scaling::scaling;
+use matrix::powers::powers;
+use roots::radicand::radicand;
+use roots::root::prepare;
 use roots::unity::zeta;
-
-// S = P1(c·α2) modulo T2, with P1(α1) = X modulo T1.
-fn forward(
-    p: u64,
-    n: usize,
-    c: u64,
-    t1: &[u64; 16],
-    t2: &[u64; 16],
-    alpha1: &[u64; 16],
-    alpha2: &[u64; 16],
-    m: &mut [u64; 256],
-) -> [u64; 16]
-    requires { ⌜ Admissible p n ⌝ }
-    requires { ⌜ Holds p n (now t1) × Holds p n (now t2) ⌝ }
-    requires { ⌜ length (now m) ≡ 256 ⌝ }
-    requires { ⌜ Choices p n (take n (now t1)) (take n (now t2)) c (now alpha1) (now alpha2) ⌝ }
-    ensures { λ s. ⌜ s ≡ padded (findS p n (take n (now (t1 .entry))) (take n (now (t2 .entry)))) ⌝ }
-    ensures { λ _. ⌜ length (now (m .exit)) ≡ 256 ⌝ }
-{
-    let p1 = express(p, n, t1, alpha1, m);
-    let gamma = scale(p, n, c, alpha2);
-    substitute(p, n, t2, &gamma, &p1)
-}
 
 // The number 5, 6 or 7 of a refusal, or 0 with S and R.
 pub struct Construction {
@@ -47,34 +24,57 @@ pub struct Construction {
     pub backward: [u64; 16],
 }
 
-// The pair from the two eigenvectors: c, then S, and R, the one polynomial with R(S) = X modulo T2.
+// The pair from α1 and α2: S = P1(α2) and R = P2(α1), where Pi(αi) = X modulo Ti. The powers of α1 are written into the array m.
+fn between(
+    p: u64,
+    n: usize,
+    a: u64,
+    t1: &[u64; 16],
+    t2: &[u64; 16],
+    alpha1: &[u64; 16],
+    alpha2: &[u64; 16],
+    m: &mut [u64; 256],
+) -> Construction
+    requires { ⌜ Admissible p n ⌝ }
+    requires { ⌜ Holds p n (now t1) × Holds p n (now t2) ⌝ }
+    requires { ⌜ (length (now m) ≡ 256) × (a < p) ⌝ }
+    requires { ⌜ Choices p n (take n (now t1)) (take n (now t2)) (now alpha1) (now alpha2) ⌝ }
+    ensures { λ r. ⌜ FoundPair p n (take n (now (t1 .entry))) (take n (now (t2 .entry))) (r .number) (r .forward) (r .backward) ⌝ }
+{
+    let mut w = [0; 256];
+    powers(p, n, t1, alpha1, m);
+    powers(p, n, t2, alpha2, &mut w);
+    Construction {
+        number: 0,
+        forward: image(p, n, a, t1, m, &w),
+        backward: image(p, n, a, t2, &w, m),
+    }
+}
+
+// The pair from an eigenvector of each model: α1 and α2 are their scalings whose n-th power is a, which both models have in common.
 fn pair(
     p: u64,
     n: usize,
     z: u64,
     t1: &[u64; 16],
     t2: &[u64; 16],
-    first: Alpha,
-    second: Alpha,
+    first: Normalised,
+    second: Normalised,
     m: &mut [u64; 256],
 ) -> Construction
     requires { ⌜ Admissible p n ⌝ }
     requires { ⌜ (z < p) × (z ≡ zetaOf p n) ⌝ }
     requires { ⌜ Holds p n (now t1) × Holds p n (now t2) ⌝ }
     requires { ⌜ length (now m) ≡ 256 ⌝ }
-    requires { ⌜ AlphaFound p n (take n (now t1)) z true (first .vector) (first .constant) ⌝ }
-    requires { ⌜ AlphaFound p n (take n (now t2)) z true (second .vector) (second .constant) ⌝ }
+    requires { ⌜ EigenvectorFound p n (take n (now t1)) z true (first .vector) (first .constant) ⌝ }
+    requires { ⌜ EigenvectorFound p n (take n (now t2)) z true (second .vector) (second .constant) ⌝ }
     ensures { λ r. ⌜ FoundPair p n (take n (now (t1 .entry))) (take n (now (t2 .entry))) (r .number) (r .forward) (r .backward) ⌝ }
 {
-    let c = root_of_ratio(p, n as u64, z, first.constant, second.constant);
-    let alpha1 = first.vector;
-    let alpha2 = second.vector;
-    let s = forward(p, n, c, t1, t2, &alpha1, &alpha2, m);
-    Construction {
-        number: 0,
-        forward: s,
-        backward: express(p, n, t2, &s, m),
-    }
+    let a = radicand(p, n as u64, z);
+    let by = prepare(p, n as u64, a);
+    let alpha1 = scaling(p, n, z, by, a, first);
+    let alpha2 = scaling(p, n, z, by, a, second);
+    between(p, n, a, t1, t2, &alpha1, &alpha2, m)
 }
 
 // A refusal.
@@ -88,7 +88,7 @@ fn refusal(number: u32) -> Construction
     }
 }
 
-// S and R for the two models, or the refusal of a modulus with a monic divisor of degree 1 to n − 1. One array serves the four systems.
+// S and R for the two models, or the refusal of a modulus with a monic divisor of degree 1 to n − 1. One array serves both kernels and a matrix of powers.
 fn from_eigenvectors(p: u64, n: usize, t1: &[u64; 16], t2: &[u64; 16]) -> Construction
     requires { ⌜ Admissible p n ⌝ }
     requires { ⌜ Holds p n (now t1) × Holds p n (now t2) ⌝ }

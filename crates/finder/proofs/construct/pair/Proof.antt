@@ -1,20 +1,26 @@
--- `pair`: the system for R is regular.
+-- `pair`: both eigenvectors have a scaling whose n-th power is a, and it is α.
 use borrow.Author.Needs.{needs}
-use Rattle.finder.proofs.construct.Constructed.{zeta-has-order, root-of-ratio-solvable, choices, forward-holds, forward-independent, pair-is}
+use Rattle.finder.proofs.construct.Constructed.{zeta-has-order, found-holds, found-radicand, choices}
 use Rattle.finder.proofs.construct.pair.Statement.{statement}
 use Rattle.finder.proofs.construct.pair.Tie as tie
 
-root-of-ratio-requires : tie.Need-root-of-ratio-requires
-root-of-ratio-requires c κs = (search needs, ((search needs, search zeta-has-order), search root-of-ratio-solvable))
+radicand-requires : tie.Need-radicand-requires
+radicand-requires c κs = (search needs, (search needs, search zeta-has-order))
 
-forward-requires : tie.Need-forward-requires
-forward-requires c κs = (search needs, (search needs, (search needs, search choices)))
+prepare-requires : tie.Need-prepare-requires
+prepare-requires c κs = search needs
 
-express-requires : tie.Need-express-requires
-express-requires c κs = (search needs, (search needs, ((search needs, search forward-holds), (search needs, search forward-independent))))
+scaling-requires : tie.Need-scaling-requires
+scaling-requires c κs = (search needs, (search needs, ((search needs, search zeta-has-order), ((search (needs, found-radicand), search found-radicand), search found-holds))))
+
+scaling-requires-2 : tie.Need-scaling-requires-2
+scaling-requires-2 c κs = (search needs, (search needs, ((search needs, search zeta-has-order), ((search (needs, found-radicand), search found-radicand), search found-holds))))
+
+between-requires : tie.Need-between-requires
+between-requires c κs = (search needs, (search needs, (search needs, search choices)))
 
 returns : tie.Need-returns
-returns c = search pair-is
+returns c = search needs
 
 pub pair-spec : {M : Type 1} → statement M
-pair-spec = tie.close (tie.spec root-of-ratio-requires forward-requires express-requires returns)
+pair-spec = tie.close (tie.spec radicand-requires prepare-requires scaling-requires scaling-requires-2 between-requires returns)
