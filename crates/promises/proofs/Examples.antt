@@ -11,7 +11,7 @@ use Rattle.answer.specs.Answer.{part, cardPart, ringText, printed, pairLine, pa
 use Rattle.text.specs.Ascii.{ascii}
 use Rattle.card.specs.Bits.{bits, numberFrom, bytes, packed, unpacked}
 use Rattle.card.specs.Card.{width, badKind, allBits, card, cardLength, writeNumber, writeOutput, fieldAt, cardPrime, cardDegree, cardKind, fieldsAt, cardWords, fillBits, readNumber}
-use Rattle.roots.specs.Roots.{zeta, rootOfRatio}
+use Rattle.roots.specs.Roots.{zeta, radicand, rootOfRatio}
 use Rattle.galois.specs.Eigenvector.{firstNonZero}
 use Rattle.finder.specs.Finder.{findable, findNumber}
 use Rattle.modular.specs.Prime.{isPrime}
@@ -28,19 +28,19 @@ use Rattle.table.specs.Table.{eachGroup, converted, tableNumber}
 use Rattle.conversion.specs.Conversion.{convertFrom}
 use Rattle.session.specs.Session.{validWith, counted, convertNumber, outputBy}
 use Rattle.promises.specs.Examples.{FinderValues, Examples}
-use Rattle.promises.proofs.Listed.{root, found, outputs}
+use Rattle.promises.proofs.Listed.{listed, found, outputs}
 use Rattle.promises.proofs.Refused.{words-counted, factor-divides, indivisible-refused, divisor-refused, second-refused}
 
 pub examples : Examples
 unfolding hasDivisor dividesTest residues prefixed all equal first range bits numberFrom bytes packed width allBits card badKind cardLength writeNumber
-    writeOutput zeta rootOfRatio firstNonZero findable findNumber isPrime badPrime isDegree badDegree badLength badWord allBelow congruencesHold checkNumberOr
+    writeOutput zeta radicand rootOfRatio firstNonZero findable findNumber isPrime badPrime isDegree badDegree badLength badWord allBelow congruencesHold checkNumberOr
     monic polynomialProduct sum scale constant shift top timesX product power residueOfX substitute modulusAt padded valid validAs validHeld viewAs
     view pairedHeld eachGroup converted tableNumber validWith counted convertFrom convertNumber outputBy unpacked fieldAt cardPrime cardDegree cardKind
     fieldsAt cardWords fillBits readNumber part cardPart ringText printed pairLine pairCardText cardText
     answerText ascii
 examples =
-    let A : FinderValues 3 2 (1 ∷ 0 ∷ []) (2 ∷ 1 ∷ []) 2 (0 ∷ 1 ∷ []) (1 ∷ 2 ∷ []) 2 2 1 (1 ∷ 2 ∷ []) (1 ∷ 2 ∷ []) =
-    found refl refl refl (root refl refl refl refl refl) (root refl refl refl refl refl) refl refl in
+    let A : FinderValues 3 2 (1 ∷ 0 ∷ []) (2 ∷ 1 ∷ []) 2 2 (0 ∷ 1 ∷ []) (1 ∷ 2 ∷ []) (1 ∷ 2 ∷ []) (1 ∷ 2 ∷ []) =
+    found refl refl refl refl (listed (0 ∷ 1 ∷ []) 2 1 refl refl refl refl refl refl) (listed (1 ∷ 2 ∷ []) 2 1 refl refl refl refl refl refl) refl in
     let splits = factor-divides 3 (1 ∷ []) (2 ∷ 1 ∷ []) (2 ∷ 0 ∷ []) (lit≤ tt) refl refl (lit< tt) (lit< tt) refl in
     record {
       A = A;
@@ -48,8 +48,9 @@ examples =
       B-finds-A = outputs A (2 ∷ 1 ∷ []) (1 ∷ 1 ∷ []) refl refl;
       C-forward = λ out e. rw (eq-eqb (length out) 2 e);
       C-back = λ out e. rw (eq-eqb (length out) 2 e);
-      D = found refl refl refl (root refl refl refl refl refl) (root refl refl refl refl refl) refl refl;
-      E = found refl refl refl (root refl refl refl refl refl) (root refl refl refl refl refl) refl refl;
+      D = found refl refl refl refl (listed (0 ∷ 0 ∷ 1 ∷ []) 4 3 refl refl refl refl refl refl) (listed (0 ∷ 1 ∷ 0 ∷ []) 3 1 refl refl refl refl refl refl) refl;
+      D-stored = refl;
+      E = found refl refl refl refl (listed (1 ∷ []) 1 1 refl refl refl refl refl refl) (listed (1 ∷ []) 1 1 refl refl refl refl refl refl) refl;
       F-check = refl;
       F-card = refl;
       F-find = λ lentS lentR lengthS lengthR.

@@ -3,6 +3,7 @@ use Rattle.answer.proofs.LongInput as Answer
 use Rattle.card.proofs.Theorem as Card
 use Rattle.cvalue.proofs.Theorem as Values
 use Rattle.finder.proofs.Theorem as Finder
+use Rattle.finder.proofs.Triangle as Triangle
 use Rattle.held.proofs.Theorem as Held
 use Rattle.irreducible.proofs.Theorem as Irreducible
 use Rattle.ledger.proofs.Theorem as Ledger
@@ -39,6 +40,8 @@ promises =
       residues-are-listed = Quotient.residues-are-listed;
       divisor-test-is-exact = Quotient.divisor-test-is-exact;
       demand-3 = Finder.demand-3;
+      triangle = Triangle.triangle-theorem;
+      every-scaling-accepted = Finder.every-scaling-accepted;
       field-exactly = Quotient.field-exactly;
       power-of-unit = Quotient.power-of-unit;
       irreducible-divisor = Quotient.irreducible-divisor;

@@ -1,13 +1,13 @@
--- Examples A to I of document 01, "Small fields by hand", in one statement about the definitions that the contracts cite. Lists are constant
--- first. Each field quotes its line.
+-- Examples A to I of document 01, "Small fields by hand", with a and, in D, the values of document 02, S-6, in one statement about the definitions that the contracts cite.
+-- Lists are constant first. Each field quotes its line.
 use mathlib.Core.Path.{_≡_}
 use mathlib.Core.List.{List, [], _∷_}
 use Prim.Native.Nat.{ℕ}
 use lib.ListN.{length}
 use Rattle.answer.specs.Answer.{answerText}
 use Rattle.card.specs.Card.{writeOutput}
-use Rattle.roots.specs.Roots.{zeta, rootOfRatio}
-use Rattle.galois.specs.Eigenvector.{alpha, powerConstant}
+use Rattle.roots.specs.Roots.{zeta, radicand}
+use Rattle.galois.specs.Eigenvector.{alpha}
 use Rattle.finder.specs.Finder.{findS, findR, findNumber, findOutputS, findOutputR}
 use Rattle.pair.specs.Pair.{checkNumber}
 use Rattle.text.specs.Ascii.{ascii}
@@ -16,21 +16,19 @@ use Rattle.array.specs.Words.{Words}
 use Rattle.held.specs.Held.{pairedHeld}
 use Rattle.session.specs.Session.{newSession, withHeld, forwardOutput, backOutput}
 
--- the finder's values for two models, from ζ to R
-pub record FinderValues (p n : ℕ) (t1 t2 : List ℕ) (z : ℕ) (alpha1 alpha2 : List ℕ) (a1 a2 c : ℕ) (s r : List ℕ) : Type 0 where
+-- the finder's values for two models, from ζ to R; c is 1
+pub record FinderValues (p n : ℕ) (t1 t2 : List ℕ) (z a : ℕ) (alpha1 alpha2 s r : List ℕ) : Type 0 where
   pub zeta-is : zeta p n ≡ z
-  pub alpha1-is : alpha p t1 z ≡ alpha1
-  pub alpha2-is : alpha p t2 z ≡ alpha2
-  pub a1-is : powerConstant p t1 alpha1 ≡ a1
-  pub a2-is : powerConstant p t2 alpha2 ≡ a2
-  pub c-is : rootOfRatio p n a1 a2 ≡ c
+  pub a-is : radicand p n z ≡ a
+  pub alpha1-is : alpha p n t1 z a ≡ alpha1
+  pub alpha2-is : alpha p n t2 z a ≡ alpha2
   pub s-is : findS p n t1 t2 ≡ s
   pub r-is : findR p n t1 t2 ≡ r
   pub number-is : (lentS lentR : List ℕ) → length lentS ≡ n → length lentR ≡ n → findNumber p n t1 t2 lentS lentR ≡ 0
 
 pub record Examples : Type 0 where
   -- A: p 3, T1 [1,0], T2 [2,1]: ζ 2, α1 [0,1], α2 [1,2], c 1, S [1,2], R [1,2]
-  pub A : FinderValues 3 2 (1 ∷ 0 ∷ []) (2 ∷ 1 ∷ []) 2 (0 ∷ 1 ∷ []) (1 ∷ 2 ∷ []) 2 2 1 (1 ∷ 2 ∷ []) (1 ∷ 2 ∷ [])
+  pub A : FinderValues 3 2 (1 ∷ 0 ∷ []) (2 ∷ 1 ∷ []) 2 2 (0 ∷ 1 ∷ []) (1 ∷ 2 ∷ []) (1 ∷ 2 ∷ []) (1 ∷ 2 ∷ [])
   -- B: models of A: S [2,1], R [1,1] is accepted; the finder gives A's pair
   pub B : checkNumber 3 2 (1 ∷ 0 ∷ []) (2 ∷ 1 ∷ []) (2 ∷ 1 ∷ []) (1 ∷ 1 ∷ []) ≡ 0
   pub B-finds-A :
@@ -43,11 +41,13 @@ pub record Examples : Type 0 where
   pub C-back :
       (out : List ℕ) → length out ≡ 2
       → backOutput (withHeld newSession (pairedHeld 3 2 (1 ∷ 0 ∷ []) (2 ∷ 1 ∷ []) (1 ∷ 2 ∷ []) (1 ∷ 2 ∷ []))) (2 ∷ 2 ∷ []) out ≡ 1 ∷ 1 ∷ []
-  -- D: p 7, T1 [5,0,0], T2 [4,0,0]: ζ 2, α1 [0,0,1], α2 [0,1,0], a1 4, a2 3, c 3, S [0,0,1], R [0,0,5]
+  -- D: p 7, T1 [5,0,0], T2 [4,0,0]: ζ 2, and "case D then has a 3, α1 [0,0,3], α2 [0,1,0], c 1, S [0,0,2] and R [0,0,3]"
   pub D :
-      FinderValues 7 3 (5 ∷ 0 ∷ 0 ∷ []) (4 ∷ 0 ∷ 0 ∷ []) 2 (0 ∷ 0 ∷ 1 ∷ []) (0 ∷ 1 ∷ 0 ∷ []) 4 3 3 (0 ∷ 0 ∷ 1 ∷ []) (0 ∷ 0 ∷ 5 ∷ [])
+      FinderValues 7 3 (5 ∷ 0 ∷ 0 ∷ []) (4 ∷ 0 ∷ 0 ∷ []) 2 3 (0 ∷ 0 ∷ 3 ∷ []) (0 ∷ 1 ∷ 0 ∷ []) (0 ∷ 0 ∷ 2 ∷ []) (0 ∷ 0 ∷ 3 ∷ [])
+  -- the pair that document 01 lists for D, S [0,0,1], R [0,0,5], remains an accepted pair
+  pub D-stored : checkNumber 7 3 (5 ∷ 0 ∷ 0 ∷ []) (4 ∷ 0 ∷ 0 ∷ []) (0 ∷ 0 ∷ 1 ∷ []) (0 ∷ 0 ∷ 5 ∷ []) ≡ 0
   -- E: p 2, T1 [1], T2 [0]: S [1], R [0]
-  pub E : FinderValues 2 1 (1 ∷ []) (0 ∷ []) 1 (1 ∷ []) (1 ∷ []) 1 1 1 (1 ∷ []) (0 ∷ [])
+  pub E : FinderValues 2 1 (1 ∷ []) (0 ∷ []) 1 1 (1 ∷ []) (1 ∷ []) (1 ∷ []) (0 ∷ [])
   -- F: p 3, T1 = T2 = [0,0]: with S = R = [0,1] "is now refused with 6" (request S-3), and its stored card prints RING; the finder refuses with 6
   pub F-check : checkNumber 3 2 (0 ∷ 0 ∷ []) (0 ∷ 0 ∷ []) (0 ∷ 1 ∷ []) (0 ∷ 1 ∷ []) ≡ 6
   pub F-card : answerText (0x00 ∷ 0x03 ∷ 0x12 ∷ 0x00 ∷ 0x11 ∷ []) ≡ ascii "RING\n"

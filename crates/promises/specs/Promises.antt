@@ -8,7 +8,9 @@
 use Rattle.answer.specs.Theorem.{LongInput}
 use Rattle.card.specs.Theorem.{WrittenReadsBack, ReadIsWritten, LongestCard}
 use Rattle.cvalue.specs.Theorem.{ValuesFollow}
+use Rattle.finder.specs.Stored.{EveryScalingAccepted}
 use Rattle.finder.specs.Theorem.{Demand3Theorem}
+use Rattle.finder.specs.Triangle.{TriangleTheorem}
 use Rattle.modular.specs.Prime.{PrimeTestIsExact}
 use Rattle.irreducible.specs.Irreducible.{IrreducibleTheorem}
 use Rattle.irreducible.specs.Rabin.{RabinsCriterion}
@@ -51,6 +53,10 @@ pub record Promises : Type 0 where
   pub divisor-test-is-exact : DivisorTestIsExact
   -- Demand 3, whole (finder/specs/Theorem.antt)
   pub demand-3 : Demand3Theorem
+  -- Round the triangle, request S-6 (finder/specs/Triangle.antt, Stored.antt): for every three models without proper divisors the found map from the first to the second followed by
+  -- that from the second to the third is the found map from the first to the third, forward and back; every other scaling's pair, so that of every stored card, is accepted too
+  pub triangle : TriangleTheorem
+  pub every-scaling-accepted : EveryScalingAccepted
   -- what makes it so (quotient/specs/Theorem.antt): fields of residues
   pub field-exactly : FieldExactly
   pub power-of-unit : PowerOfUnit
