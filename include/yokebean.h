@@ -69,8 +69,11 @@ uint32_t yokebean_sheet(uint32_t p, uint32_t n, const uint16_t *t1, size_t t1_le
                         const uint16_t *s, size_t s_len, const uint16_t *r, size_t r_len, uint8_t *out, size_t out_len);
 size_t yokebean_sheet_length(uint32_t n);
 
-/* The finder: writes the pair of Allombert's Algorithm 2.1, with the smallest zeta and c from 1 to p - 1 and eigenvectors whose first
- * coefficient that is not zero is 1, into s and r, two lists of n words. 1 to 7. */
+/* The finder: writes the pair of Allombert's Algorithm 2.1 into s and r, two lists of n words. zeta is the smallest number from 1 to p - 1 of order n
+ * modulo p, and a the smallest with a^((p-1)/n) = zeta modulo p; in each model alpha satisfies alpha^p = zeta*alpha and alpha^n = a, and of the n
+ * residues that do, it is the one whose first coefficient that is not zero is smallest; u -> u(S) takes the alpha of T1 to that of T2, and u -> u(R)
+ * takes it back. Found maps compose: for three models A, B, C, the maps found for A and B and then those for B and C are the maps found for A and C,
+ * forward and back; with the models exchanged, the found pair is exchanged. Pairs found by earlier versions stay accepted. 1 to 7. */
 uint32_t yokebean_find(uint32_t p, uint32_t n, const uint16_t *t1, size_t t1_len, const uint16_t *t2, size_t t2_len,
                        uint16_t *s, size_t s_len, uint16_t *r, size_t r_len);
 

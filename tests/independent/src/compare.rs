@@ -2,6 +2,7 @@
 
 pub mod cards;
 mod case;
+pub mod earlier;
 mod known;
 pub mod maps;
 pub mod moduli;
@@ -10,12 +11,14 @@ pub mod program;
 pub mod residues;
 pub mod sessions;
 pub mod sheets;
+mod sizes;
+pub mod triangles;
 
 use std::collections::BTreeMap;
 use std::fmt::Debug;
 
 /// The numbers that a call can give. Each must have occurred with it.
-const NUMBERS: [(&str, &[u32]); 18] = [
+const NUMBERS: [(&str, &[u32]); 21] = [
     ("product", &[0, 1, 2, 3, 4]),
     ("power", &[0, 1, 2, 3, 4]),
     ("substitute", &[0, 1, 2, 3, 4]),
@@ -24,6 +27,9 @@ const NUMBERS: [(&str, &[u32]); 18] = [
     ("maps", &[0, 1, 2, 3, 4, 6, 7, 8]),
     ("sheet", &[0, 1, 2, 3, 4, 6, 7, 8]),
     ("find", &[0, 1, 2, 3, 4, 5, 6, 7]),
+    ("exchanged", &[0]),
+    ("triangle", &[0]),
+    ("triangle_tables", &[0]),
     ("session_load", &[0, 23, 1, 2, 3, 4]),
     ("session_propose", &[0, 21, 24, 3, 4, 6, 7, 8]),
     ("session_find", &[0, 21, 24, 5, 6, 7]),

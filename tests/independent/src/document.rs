@@ -5,6 +5,8 @@
 
 pub mod card;
 pub mod divisor;
+pub mod earlier;
+pub mod eigenvector;
 pub mod finder;
 pub mod maps;
 pub mod model;

@@ -1,10 +1,11 @@
-//! Examples A to J of document 01, F as request S-3 has it, and the report, the sheet and the maps of A, on the independent implementation itself.
+//! Examples A to J of document 01, D as request S-6 and F as request S-3 has it, and the report, the sheet and the maps of A, on the independent
+//! implementation itself.
 
-use crate::document::{self, card, finder, is_prime, maps, session::Session, sheet};
+use crate::document::{self, card, earlier, finder, is_prime, maps, session::Session, sheet};
 
 pub fn hold() {
     let pair = finder::pair(3, &[1, 0], &[2, 1]);
-    assert_eq!((pair.zeta, &pair.alpha1[..], &pair.alpha2[..], pair.c), (2, &[0, 1][..], &[1, 2][..], 1));
+    assert_eq!((pair.zeta, pair.a, &pair.alpha1[..], &pair.alpha2[..]), (2, 2, &[0, 1][..], &[1, 2][..]));
     assert_eq!((&pair.s[..], &pair.r[..]), (&[1, 2][..], &[1, 2][..]));
     assert_eq!(document::check(3, 2, &[1, 0], &[2, 1], &[2, 1], &[1, 1]), 0);
     let session = Session::new().load(3, 2, &[1, 0], &[2, 1]).unwrap().find().unwrap();
@@ -13,8 +14,14 @@ pub fn hold() {
     assert_eq!((&image[..], &again[..]), (&[2, 2][..], &[1, 1][..]));
     assert_eq!(session.report(&[0; 12]), (0, b"F 1\nB 1\n1\n1\n".to_vec()));
     let pair = finder::pair(7, &[5, 0, 0], &[4, 0, 0]);
-    assert_eq!((pair.zeta, &pair.alpha1[..], &pair.alpha2[..], pair.a1, pair.a2, pair.c), (2, &[0, 0, 1][..], &[0, 1, 0][..], 4, 3, 3));
-    assert_eq!((&pair.s[..], &pair.r[..]), (&[0, 0, 1][..], &[0, 0, 5][..]));
+    assert_eq!((pair.zeta, pair.a, &pair.alpha1[..], &pair.alpha2[..]), (2, 3, &[0, 0, 3][..], &[0, 1, 0][..]));
+    assert_eq!((&pair.s[..], &pair.r[..]), (&[0, 0, 2][..], &[0, 0, 3][..]));
+    // found before request S-6, and still accepted
+    assert_eq!(earlier::pair(7, &[5, 0, 0], &[4, 0, 0]), (vec![0, 0, 1], vec![0, 0, 5]));
+    assert_eq!(document::check(7, 3, &[5, 0, 0], &[4, 0, 0], &[0, 0, 1], &[0, 0, 5]), 0);
+    assert_eq!(card::fieldcard(&card::card(7, 3, 2, &[5, 0, 0, 4, 0, 0, 0, 0, 1, 0, 0, 5])), "VALID\n");
+    let pair = finder::pair(5, &[1], &[3]);
+    assert_eq!((pair.zeta, pair.a, &pair.alpha1[..], &pair.alpha2[..]), (1, 1, &[1][..], &[1][..]));
     assert_eq!(document::find(2, 1, &[1], &[0], &[0], &[0]), (0, vec![1], vec![0]));
     assert_eq!(document::check(3, 2, &[0, 0], &[0, 0], &[0, 1], &[0, 1]), 6);
     assert_eq!(Session::new().load(3, 2, &[0, 0], &[0, 0]).unwrap().propose(&[0, 1], &[0, 1]), Err(6));

@@ -9,21 +9,24 @@ use crate::random::Random;
 use yokebean::{check, find, Size};
 
 /// The number on which both sides agree.
-fn compare_check(case: &Case, tally: &mut Tally) -> u32 {
+pub fn compare_check(case: &Case, tally: &mut Tally) -> u32 {
     let Case { p, n, t1, t2, s, r } = case;
     let want = document::check(*p, *n, t1, t2, s, r);
     tally.compare("check", want, &(p, n, t1, t2, s, r), &library::number(check(Size { p: *p, n: *n }, t1, t2, s, r)), &want);
     want
 }
 
-fn compare_find(p: u32, n: u32, t1: &[u16], t2: &[u16], lent: [Vec<u16>; 2], tally: &mut Tally) {
+/// What the two lists hold after the call.
+pub fn compare_find(p: u32, n: u32, t1: &[u16], t2: &[u16], lent: [Vec<u16>; 2], tally: &mut Tally) -> (Vec<u16>, Vec<u16>) {
     let want = document::find(p, n, t1, t2, &lent[0], &lent[1]);
     let [mut s, mut r] = lent;
     let number = library::number(find(Size { p, n }, t1, t2, &mut s, &mut r));
     if number == 0 {
         assert_eq!(check(Size { p, n }, t1, t2, &s, &r), Ok(()), "the checker refuses a found pair");
     }
-    tally.compare("find", want.0, &(p, n, t1, t2), &(number, s, r), &want);
+    let got = (number, s, r);
+    tally.compare("find", want.0, &(p, n, t1, t2), &got, &want);
+    (got.1, got.2)
 }
 
 pub fn run(rounds: u64, tally: &mut Tally) {

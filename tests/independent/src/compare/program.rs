@@ -79,6 +79,8 @@ pub fn run(rounds: u64, tally: &mut Tally) {
     tally.compare("fieldcard", 0, &"short reads", &printed(&parts), &card::fieldcard(&parts.concat()));
     compare(&[0x00, 0x03, 0x11, 0x49], tally);
     compare(&[0x00, 0x03, 0x12, 0x49, 0x66], tally);
+    compare(&card::card(7, 3, 1, &[5, 0, 0, 4, 0, 0]), tally);
+    compare(&card::card(7, 3, 2, &[5, 0, 0, 4, 0, 0, 0, 0, 1, 0, 0, 5]), tally); // found before request S-6
     compare(&[0x00, 0x04, 0x11, 0x49], tally); // 1
     compare(&[0x00, 0x03, 0x13, 0x49], tally); // 12
     compare(&[0x00, 0x03, 0x11, 0x4B], tally); // 4

@@ -47,13 +47,13 @@ fn totals(report: &[u8]) -> [u64; 2] {
 }
 
 /// A list of calls: the session that the last of them gave, and the residues of the conversions that answered 0, forward and back.
-struct Calls {
+pub struct Calls {
     current: Value,
     sums: [u64; 2],
 }
 
 impl Calls {
-    fn new(tally: &mut Tally) -> Self {
+    pub fn new(tally: &mut Tally) -> Self {
         let current = library::new();
         tally.compare("session_new", 0, &(), &current, &NEW);
         Calls { current, sums: [0, 0] }
@@ -76,17 +76,17 @@ impl Calls {
         got.number
     }
 
-    fn load(&mut self, p: u32, n: u32, t1: &[u16], t2: &[u16], tally: &mut Tally) {
+    pub fn load(&mut self, p: u32, n: u32, t1: &[u16], t2: &[u16], tally: &mut Tally) {
         let want = counts_as(&self.current).load(p, n, t1, t2);
         self.step("session_load", want, library::load(self.current, p, n, t1, t2), tally);
     }
 
-    fn propose(&mut self, s: &[u16], r: &[u16], tally: &mut Tally) -> u32 {
+    pub fn propose(&mut self, s: &[u16], r: &[u16], tally: &mut Tally) -> u32 {
         let want = counts_as(&self.current).propose(s, r);
         self.step("session_propose", want, library::propose(self.current, s, r), tally)
     }
 
-    fn find(&mut self, tally: &mut Tally) {
+    pub fn find(&mut self, tally: &mut Tally) {
         self.step("session_find", counts_as(&self.current).find(), library::find(self.current), tally);
     }
 
@@ -95,7 +95,7 @@ impl Calls {
     }
 
     /// A conversion leaves all else of the value as it was, what does not count included. What the output list then holds.
-    fn convert(&mut self, forward: bool, table: &[u16], mut output: Vec<u16>, tally: &mut Tally) -> Vec<u16> {
+    pub fn convert(&mut self, forward: bool, table: &[u16], mut output: Vec<u16>, tally: &mut Tally) -> Vec<u16> {
         let taken = self.current;
         let want = match counts_as(&taken).convert(forward, table, output.len()) {
             Ok((image, next)) => (Step { number: 0, session: with_ledger(&taken, &next) }, image),

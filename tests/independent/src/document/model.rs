@@ -14,14 +14,13 @@ impl<'a> Model<'a> {
         Model { p: p.into(), modulus }
     }
 
-    /// The remainder of a polynomial of any degree.
+    /// The remainder of a polynomial of any degree. Each coefficient is reduced modulo p once, when it is read: up to 16 products of words are added.
     fn remainder(&self, mut f: Vec<u64>) -> Residue {
         let n = self.modulus.len();
         for k in (n..f.len()).rev() {
-            let lead = f[k] % self.p;
-            f[k] = 0;
-            for i in 0..n {
-                f[k - n + i] = (f[k - n + i] + (self.p - lead) * u64::from(self.modulus[i])) % self.p;
+            let factor = self.p - f[k] % self.p;
+            for (c, &t) in f[k - n..k].iter_mut().zip(self.modulus) {
+                *c += factor * u64::from(t);
             }
         }
         f.resize(n, 0);
