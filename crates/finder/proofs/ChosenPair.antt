@@ -5,6 +5,7 @@ use mathlib.Core.Path.{_≡_, sym, ap, _∙_, subst}
 use mathlib.Core.List.{List}
 use Prim.Native.Nat.{ℕ, suc, _-_, _<_}
 use native.Mathlib.Omega.{arith}
+use lib.ListN.{length}
 use Rattle.algebra.specs.Prime.{Prime}
 use Rattle.algebra.specs.Search.{Smallest}
 use Rattle.algebra.proofs.Smallest.{smallest-unique}
@@ -12,17 +13,18 @@ use Rattle.array.specs.Words.{Words}
 use Rattle.pair.specs.Pair.{Congruences}
 use Rattle.quotient.specs.Divisor.{HasDivisor}
 use Rattle.quotient.specs.Residue.{constant, power}
-use Rattle.roots.specs.Roots.{zeta, radicand, Admissible, OrderModulo, Radicand}
+use Rattle.roots.specs.Roots.{zeta, radicand, Admissible, OrderModulo, Radicand, Solvable}
 use Rattle.roots.proofs.Radicands.{IsRadicand, radicand-is, radicands-solvable}
 use Rattle.roots.proofs.RootOfRatio.{root-of-ratio-positive}
 use Rattle.roots.proofs.Zeta.{zeta-is}
-use Rattle.galois.specs.Eigenvector.{Eigenvector, Alpha, Normalised}
+use Rattle.galois.specs.Eigenvector.{scalings, Eigenvector, Alpha, Normalised}
 use Rattle.galois.proofs.Alpha.{alpha-is, alpha-unique}
 use Rattle.galois.proofs.Binomial.{multiple-power}
 use Rattle.galois.proofs.FirstNonZero.{normalised, firstNonZero-normalised}
 use Rattle.galois.proofs.Generates.{relation-words, generates, constant-radicand}
 use Rattle.galois.proofs.Generators.{Generator}
 use Rattle.galois.proofs.Irreducible.{eigenvector-exists, power-is-constant}
+use Rattle.galois.proofs.Scalings.{scalings-count}
 use Rattle.galois.proofs.NoDivisor.{constant-positive, no-divisor}
 use Rattle.galois.proofs.ResidueEigenvector.{multiple-eigenvector, normalised-eigenvector}
 use Rattle.finder.specs.Finder.{generator, findS, findR}
@@ -56,13 +58,19 @@ module _ {p n : ℕ} (h : Admissible p (suc n)) where
   radicand-found = radicand-is p (suc n) ζ h (zeta-found .1) (zeta-found .2)
 
   module _ {t : List ℕ} (wt : Words p (suc n) t) (irreducible : HasDivisor p t → ⊥) where
-    pub generator-is : Alpha p (suc n) t ζ a (generator p (suc n) t)
-    unfolding generator
-    generator-is =
+    normalised-found : (v : List ℕ) × (b : ℕ) × Normalised p (suc n) t ζ v b × Solvable p (suc n) a b
+    normalised-found =
         let (v, b, g) = normalised-exists (h .prime) wt irreducible ζ (zeta-found .2) in
         let r : Radicand p (suc n) ζ b = constant-radicand (h .prime) wt ζ (zeta-found .2) (g .eigenvector) b (g .power-is) (h .divides) (zeta-found .1) in
         let r' : Radicand p (suc n) ζ a = record { positive = radicand-found .0; below = radicand-found .1; power-is = radicand-found .2 } in
-        alpha-is (h .prime) wt irreducible ζ g a _ (radicands-solvable p (suc n) ζ a b h r' r .smallest)
+        (v, b, g, radicands-solvable p (suc n) ζ a b h r' r)
+
+    pub generator-is : Alpha p (suc n) t ζ a (generator p (suc n) t)
+    unfolding generator
+    generator-is = let (v, b, g, s) = normalised-found in alpha-is (h .prime) wt irreducible ζ g a _ (s .smallest)
+
+    pub scalings-found : length (scalings p (suc n) t ζ a) ≡ suc n
+    scalings-found = let (v, b, g, s) = normalised-found in scalings-count h wt irreducible ζ (zeta-found .1) (zeta-found .2) g a s
 
     pub generator-generates : Generator p (suc n) (constant (suc n) (p - a)) t (generator p (suc n) t)
     generator-generates = generates (h .prime) wt ζ (zeta-found .2) (generator-is .eigenvector) a (generator-is .root-is)

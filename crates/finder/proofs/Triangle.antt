@@ -1,5 +1,5 @@
 -- Round the triangle. The α of the three models satisfy one relation X^n − a, so S_BC takes S_AB = P_A(α_B) to P_A(α_C) = S_AC. The back map is the forward map of the
--- models exchanged, so it goes round the other way.
+-- models exchanged, so it goes round the other way. At the end: a model has n scalings.
 use mathlib.Core.Path.{_≡_, sym, ap, ap₂, _∙_}
 use mathlib.Core.List.{List}
 use Prim.Native.Nat.{ℕ, zero, suc}
@@ -11,8 +11,9 @@ use Rattle.quotient.proofs.Substitution.{substitute-substitute}
 use Rattle.roots.specs.Roots.{Admissible}
 use Rattle.galois.proofs.Generators.{forward-words, forward-root, triangle}
 use Rattle.finder.specs.Finder.{findS, findR}
+use Rattle.finder.specs.Scalings.{ScalingsAreCounted}
 use Rattle.finder.specs.Triangle.{Triangle, TriangleTheorem}
-use Rattle.finder.proofs.ChosenPair.{generator-generates, generator-relation, found-exchanged}
+use Rattle.finder.proofs.ChosenPair.{generator-generates, generator-relation, scalings-found, found-exchanged}
 use Rattle.finder.proofs.Findable.{model-admissible}
 
 module _ {p n : ℕ} (h : Admissible p (suc n)) where
@@ -53,3 +54,7 @@ pub triangle-theorem : TriangleTheorem
 triangle-theorem p zero a b c ma mb mc divides ia ib ic = absurd (omega (arith, ma .degree .0))
 triangle-theorem p (suc n) a b c ma mb mc divides ia ib ic =
     triangle-of (model-admissible p (suc n) a ma divides) (ma .modulus) (mb .modulus) (mc .modulus) ia ib ic
+
+pub scalings-counted : ScalingsAreCounted
+scalings-counted p zero t m divides irreducible = absurd (omega (arith, m .degree .0))
+scalings-counted p (suc n) t m divides irreducible = scalings-found (model-admissible p (suc n) t m divides) (m .modulus) irreducible

@@ -1,6 +1,7 @@
--- The finder: its values, its answer, demand 3, the triangle, and stored pairs.
+-- The finder: its values, its answer, demand 3, the scalings, the triangle, and stored pairs.
 pub mod Finder
 pub mod Construct
 pub mod Theorem
+pub mod Scalings
 pub mod Triangle
 pub mod Stored

@@ -11,7 +11,8 @@
 --   Alpha p n t z a u (of galois)      u is not zero, u^p = z·u and u^n = a modulo T, and of all such residues its first coefficient that is not zero is smallest
 --   Findable p n (of Finder.antt)      n divides p − 1
 --   PairOf p n t1 t2 x y s r    S = P1(y) modulo T2 with P1(x) = X modulo T1, and R(S) = X modulo T2; P1 and R of degree below n
---   ChosenPair p n t1 t2 s r    S and R are the polynomials of Algorithm 2.1 with the choices of document 01, normalised as document 02, S-6, says
+--   ChosenPair p n t1 t2 s r    S and R are the polynomials of Algorithm 2.1 with the choices of document 01, normalised as document 02, S-6, says; c is 1, so that
+--                               S = P1(c·α2) is P1(α2)
 use mathlib.Core.Path.{_≡_}
 use mathlib.Core.List.{List}
 use mathlib.Core.Logic.{_↔_}

@@ -32,13 +32,13 @@ use Rattle.galois.proofs.ResidueConstants.{constant-injective}
 -- the search
 
 module _ (p n : ℕ) (t : List ℕ) (z a : ℕ) where
-  abbrev test : List ℕ → Bool
+  abbrev pub test : List ℕ → Bool
   test u = not (equal u (constant n 0)) && equal (power p t u p) (scale p z u) && equal (power p t u n) (constant n a)
 
-  abbrev Scaling : List ℕ → Type 0
+  abbrev pub Scaling : List ℕ → Type 0
   Scaling u = Eigenvector p n t z u × (power p t u n ≡ constant n a)
 
-  scaling-of : (u : List ℕ) → Member u (scalings p n t z a) → Scaling u
+  pub scaling-of : (u : List ℕ) → Member u (scalings p n t z a) → Scaling u
   unfolding scalings
   scaling-of u m =
       let (l, h) = filter-member test (residues p n) u m in
@@ -52,7 +52,7 @@ module _ (p n : ℕ) (t : List ℕ) (z a : ℕ) where
         of-equal _ _ (outer .1),
       )
 
-  of-scaling : (u : List ℕ) → Scaling u → Member u (scalings p n t z a)
+  pub of-scaling : (u : List ℕ) → Scaling u → Member u (scalings p n t z a)
   unfolding scalings
   of-scaling u (h, e) =
       member-filter test (residues p n) u (residues-complete p n u (h .words)) (
@@ -102,7 +102,7 @@ alpha-unique {p} {n} prime wt irreducible z a u w hu hw =
 -- α as a multiple of v
 
 module _ {p n : ℕ} {t : List ℕ} (prime : Prime p) (wt : Words p (suc n) t) (irreducible : HasDivisor p t → ⊥) (z : ℕ) {v : List ℕ} {b : ℕ} (h : Normalised p (suc n) t z v b) where
-  first-of : (c : ℕ) → 0 < c → c < p → firstNonZero (scale p c v) ≡ c
+  pub first-of : (c : ℕ) → 0 < c → c < p → firstNonZero (scale p c v) ≡ c
   first-of c pos below =
       firstNonZero-scale prime pos below (h .eigenvector .words) ∙ ap (λ x. c * x % p) (h .firstNonZero-is) ∙ ap (λ x. x % p) (mul-one c) ∙ mod-eq-of-lt below
 

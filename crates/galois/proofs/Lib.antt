@@ -13,5 +13,6 @@ pub mod NoDivisor
 pub mod Binomial
 pub mod Generates
 pub mod Alpha
+pub mod Scalings
 pub mod Root
 pub mod KernelDecides

@@ -40,6 +40,7 @@ promises =
       residues-are-listed = Quotient.residues-are-listed;
       divisor-test-is-exact = Quotient.divisor-test-is-exact;
       demand-3 = Finder.demand-3;
+      scalings-are-counted = Triangle.scalings-counted;
       triangle = Triangle.triangle-theorem;
       every-scaling-accepted = Finder.every-scaling-accepted;
       field-exactly = Quotient.field-exactly;

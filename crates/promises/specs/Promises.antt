@@ -8,6 +8,7 @@
 use Rattle.answer.specs.Theorem.{LongInput}
 use Rattle.card.specs.Theorem.{WrittenReadsBack, ReadIsWritten, LongestCard}
 use Rattle.cvalue.specs.Theorem.{ValuesFollow}
+use Rattle.finder.specs.Scalings.{ScalingsAreCounted}
 use Rattle.finder.specs.Stored.{EveryScalingAccepted}
 use Rattle.finder.specs.Theorem.{Demand3Theorem}
 use Rattle.finder.specs.Triangle.{TriangleTheorem}
@@ -53,8 +54,9 @@ pub record Promises : Type 0 where
   pub divisor-test-is-exact : DivisorTestIsExact
   -- Demand 3, whole (finder/specs/Theorem.antt)
   pub demand-3 : Demand3Theorem
-  -- Round the triangle, request S-6 (finder/specs/Triangle.antt, Stored.antt): for every three models without proper divisors the found map from the first to the second followed by
+  -- Round the triangle, request S-6 (finder/specs/Scalings.antt, Triangle.antt, Stored.antt): a model without proper divisors has n scalings; for every three models without proper divisors the found map from the first to the second followed by
   -- that from the second to the third is the found map from the first to the third, forward and back; every other scaling's pair, so that of every stored card, is accepted too
+  pub scalings-are-counted : ScalingsAreCounted
   pub triangle : TriangleTheorem
   pub every-scaling-accepted : EveryScalingAccepted
   -- what makes it so (quotient/specs/Theorem.antt): fields of residues

@@ -3,3 +3,4 @@ pub mod Zeta
 pub mod RootOfRatio
 mod RootsOfUnity
 pub mod Radicands
+pub mod Multiples

@@ -82,7 +82,7 @@ module _ {p n : ℕ} (h : Admissible p n) where
   abbrev big : 2 ≤ p
   big = h .prime .0
 
-  has-order : (w : Below p) → OrderModulo p n (w .0) → HasOrder (wordRing p big) w n
+  pub has-order : (w : Below p) → OrderModulo p n (w .0) → HasOrder (wordRing p big) w n
   has-order w o =
       record {
         period = below-equal p _ _ (power-value p big w n ∙ o .0 ∙ sym (one-value p big));
