@@ -129,11 +129,16 @@ module _ {A : Type 0} where
       by-test (no h) r =
           record { passing = skip-next P x xs (r .passing); failing = take-next (λ a. P a → ⊥) x xs h (r .failing); lengths = omega (arith, r .lengths) }
 
+-- an injective map of a finite set into one that is not larger is onto
+pub injective-fills : {A B : Type 0} → Discrete B → (f : A → B) (xs : List A) (ys : List B) → Distinct xs → ((a : A) → Member a xs → Member (f a) ys)
+    → ((a b : A) → Member a xs → Member b xs → f a ≡ f b → a ≡ b) → length ys ≤ length xs → (b : B) → Member b ys → (a : A) × Member a xs × (b ≡ f a)
+injective-fills same f xs ys d into inj small b m =
+    map-member f xs b (distinct-within-all same (map f xs) ys (distinct-map f xs inj d) image-within (omega (arith, length-map xs f)) b m)
+  where
+    image-within : Within (map f xs) ys
+    image-within c l = let (a, k, e) = map-member f xs c l in member-equal ys (sym e) (into a k)
+
 -- an injective map of a finite set into itself is onto
 pub injective-onto : {A : Type 0} → Discrete A → (f : A → A) (xs : List A) → Distinct xs → ((a : A) → Member a xs → Member (f a) xs)
     → ((a b : A) → Member a xs → Member b xs → f a ≡ f b → a ≡ b) → (b : A) → Member b xs → (a : A) × Member a xs × (b ≡ f a)
-injective-onto {A} same f xs d into inj b m =
-    map-member f xs b (distinct-within-all same (map f xs) xs (distinct-map f xs inj d) image-within (omega (arith, length-map xs f)) b m)
-  where
-    image-within : Within (map f xs) xs
-    image-within c l = let (a, k, e) = map-member f xs c l in member-equal xs (sym e) (into a k)
+injective-onto same f xs d into inj = injective-fills same f xs xs d into inj (omega arith)

@@ -10,7 +10,7 @@ use Rattle.algebra.proofs.RingLaws.{power-mul, power-one}
 
 module _ {A : Type 0} (R : CommutativeRing A) (p : ℕ) where
   -- x^(p^(j + k)) = (x^(p^j))^(p^k)
-  power-power : (x : A) (j k : ℕ) → power R x (p ^ (j + k)) ≡ power R (power R x (p ^ j)) (p ^ k)
+  pub power-power : (x : A) (j k : ℕ) → power R x (p ^ (j + k)) ≡ power R (power R x (p ^ j)) (p ^ k)
   power-power x j zero = ap (λ e. power R x (p ^ e)) (add-zero j) ∙ sym (ap (power R (power R x (p ^ j))) (pow-zero p) ∙ power-one R (power R x (p ^ j)))
   power-power x j (suc k) =
       let step : j + suc k ≡ suc (j + k) = omega arith in

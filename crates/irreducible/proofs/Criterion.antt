@@ -19,7 +19,7 @@ use Rattle.quotient.specs.Divisor.{Divides, HasDivisor}
 use Rattle.quotient.specs.Residue.{Residue, residueOfX, HasInverse}
 use Rattle.quotient.proofs.Descent.{irreducible-divisor}
 use Rattle.quotient.proofs.Divisor.{divides-transitive, divides-zero, reduction-homomorphism}
-use Rattle.quotient.proofs.Field.{residueField}
+use Rattle.quotient.proofs.Field.{residueField, power-of-size}
 use Rattle.quotient.proofs.Operations.{residue-path}
 use Rattle.quotient.proofs.Reduction.{characteristic, reduce}
 use Rattle.quotient.proofs.Ring.{residueRing, xResidue}
@@ -28,7 +28,7 @@ use Rattle.quotient.proofs.FieldModulus.{has-inverse, inverse-of}
 use Rattle.quotient.proofs.Units.{Invertible, nonzero-invertible}
 use Rattle.irreducible.specs.Rabin.{conjugateOfX, difference, Rabin}
 use Rattle.irreducible.proofs.Differences.{conjugate-of-x-is, difference-is}
-use Rattle.irreducible.proofs.PeriodOfX.{power-of-size, no-lower-period}
+use Rattle.irreducible.proofs.PeriodOfX.{no-lower-period}
 
 module _ {p n : ℕ} {t : List ℕ} (prime : Prime p) (wt : Words p (suc n) t) where
   abbrev K : CommutativeRing (Residue p (suc n))

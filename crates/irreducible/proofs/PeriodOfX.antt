@@ -2,8 +2,8 @@
 -- u^(p^n) = u, and X^(p^k) = X for a 0 < k < n would give u^(p^k) = u for all p^n residues u, which is too many.
 use mathlib.Core.Path.{_≡_, sym, ap, _∙_}
 use mathlib.Core.List.{List}
-use Prim.Native.Nat.{ℕ, zero, suc, _+_, _-_, _*_, _^_, _≤_, _<_}
-use native.Mathlib.Nat.{pow-zero, pow-suc, pow-le-pow-right, one-le-pow, le-dest}
+use Prim.Native.Nat.{ℕ, zero, suc, _+_, _-_, _^_, _≤_, _<_}
+use native.Mathlib.Nat.{pow-zero, one-le-pow}
 use native.Mathlib.Omega.{arith}
 use lib.ListN.{length}
 use Rattle.algebra.specs.Prime.{Prime}
@@ -11,25 +11,16 @@ use Rattle.algebra.specs.Ring.{CommutativeRing, Field, power}
 use Rattle.algebra.proofs.FieldLaws.{mul-left-cancel}
 use Rattle.algebra.proofs.Lists.{member-all}
 use Rattle.algebra.proofs.PowerRoots.{power-roots-at-most}
-use Rattle.algebra.proofs.RingLaws.{power-of-zero, power-suc}
+use Rattle.algebra.proofs.PrimePowers.{power-doubles}
+use Rattle.algebra.proofs.RingLaws.{power-suc}
 use Rattle.array.specs.Words.{Words}
 use Rattle.quotient.specs.Divisor.{HasDivisor}
 use Rattle.quotient.specs.Residue.{Residue}
 use Rattle.quotient.proofs.Evaluation.{evaluate}
-use Rattle.quotient.proofs.Field.{residueField, nonzeroResidues, nonzero-residues, nonzero-residues-length, power-of-nonzero}
+use Rattle.quotient.proofs.Field.{residueField, nonzeroResidues, nonzero-residues, nonzero-residues-length}
 use Rattle.quotient.proofs.Conjugates.{evaluate-conjugate}
-use Rattle.quotient.proofs.Operations.{residue-discrete}
 use Rattle.quotient.proofs.Reduction.{characteristic, reduce, reduce-residue}
 use Rattle.quotient.proofs.Ring.{residueRing, xResidue}
-
--- 2·p^k ≤ p^(n + 1)
-power-doubles : (p k n : ℕ) → 2 ≤ p → k ≤ n → p ^ k + p ^ k ≤ p ^ suc n
-power-doubles p k n big le =
-    let (r, e) = le-dest big in
-    let more : p ^ k ≤ p ^ n = pow-le-pow-right (omega arith) le in
-    let twice : p ^ n * (2 + r) ≡ p ^ suc n = ap (λ x. p ^ n * x) e ∙ sym (pow-suc p n) in
-    let spread : p ^ n * (2 + r) ≡ p ^ n + p ^ n + p ^ n * r = omega arith in
-    omega arith
 
 module _ {p n : ℕ} {t : List ℕ} (prime : Prime p) (wt : Words p (suc n) t) where
   abbrev K : CommutativeRing (Residue p (suc n))
@@ -51,14 +42,6 @@ module _ {p n : ℕ} {t : List ℕ} (prime : Prime p) (wt : Words p (suc n) t) w
 
     size-positive : (k : ℕ) → suc (p ^ k - 1) ≡ p ^ k
     size-positive k = omega (arith, one-le-pow k p (omega (arith, prime .0)))
-
-    -- u^(p^n) = u
-    pub power-of-size : (u : Residue p (suc n)) → power K u (p ^ suc n) ≡ u
-    power-of-size u = ap (power K u) (sym (size-positive (suc n))) ∙ by-zero (residue-discrete p (suc n) u (K .zero))
-      where
-        by-zero : Dec (u ≡ K .zero) → power K u (suc (p ^ suc n - 1)) ≡ u
-        by-zero (yes z) = ap (λ v. power K v (suc (p ^ suc n - 1))) z ∙ power-of-zero K (p ^ suc n - 1) ∙ sym z
-        by-zero (no h) = power-suc K u (p ^ suc n - 1) ∙ ap (K .mul u) (power-of-nonzero prime wt irreducible u h) ∙ K .mul-one u
 
     -- u^(p^k − 1) = 1 for every u other than 0 would make p^n − 1 roots
     pub no-lower-period : (k : ℕ) → 0 < k → k < suc n → power K x (p ^ k) ≡ x → ⊥

@@ -19,12 +19,12 @@ use Rattle.algebra.proofs.Search.{range-length, range-bounds, range-distinct}
 use Rattle.array.specs.Words.{Words}
 use Rattle.array.proofs.Words.{words-length}
 use Rattle.galois.proofs.RootIndependent.{root-homomorphism, root-injective}
-use Rattle.irreducible.proofs.PeriodOfX.{power-of-size, no-lower-period}
+use Rattle.irreducible.proofs.PeriodOfX.{no-lower-period}
 use Rattle.quotient.specs.Divisor.{HasDivisor, monic}
 use Rattle.quotient.specs.Residue.{Residue, constant, conjugate, modulusAt}
 use Rattle.quotient.proofs.Conjugates.{conjugate-is, evaluate-conjugate}
 use Rattle.quotient.proofs.Evaluation.{evaluate}
-use Rattle.quotient.proofs.Field.{residueField}
+use Rattle.quotient.proofs.Field.{residueField, power-of-size}
 use Rattle.quotient.proofs.Operations.{residue-path, residue-discrete}
 use Rattle.quotient.proofs.Reduction.{characteristic, zero-is}
 use Rattle.quotient.proofs.Ring.{residueRing, xResidue}

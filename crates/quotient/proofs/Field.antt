@@ -1,11 +1,12 @@
 -- Modulo a prime p and a T without a divisor of degree 1 to n − 1 the residues are a field with p^n − 1 elements other than 0, hence
--- u^(p^n − 1) = 1 for each of them.
+-- u^(p^n − 1) = 1 for each of them, and u^(p^n) = u for every residue.
 --   residueField     the field
 --   nonzeroResidues  its elements other than 0, each once
 use mathlib.Core.Path.{_≡_, sym, ap, _∙_}
 use mathlib.Core.List.{List, head-eq-of-cons-eq}
 use mathlib.Core.Logic.{⊎-elim}
 use Prim.Native.Nat.{ℕ, suc, _-_, _^_}
+use native.Mathlib.Nat.{one-le-pow}
 use native.Mathlib.Omega.{arith}
 use lib.ListN.{length}
 use Rattle.algebra.specs.Lists.{Member}
@@ -13,6 +14,7 @@ use Rattle.algebra.specs.Prime.{Prime}
 use Rattle.algebra.specs.Ring.{CommutativeRing, Field, power}
 use Rattle.algebra.proofs.Counting.{without, without-length, without-keeps, without-lacks, without-distinct}
 use Rattle.algebra.proofs.Lists.{member-equal}
+use Rattle.algebra.proofs.RingLaws.{power-of-zero, power-suc}
 use Rattle.algebra.proofs.Units.{Units, power-units}
 use Rattle.array.specs.Words.{Words}
 use Rattle.quotient.specs.Residue.{Residue, constant}
@@ -73,3 +75,13 @@ module _ {p n : ℕ} {t : List ℕ} (prime : Prime p) (wt : Words p (suc n) t) (
   pub power-of-nonzero : (u : Residue p (suc n)) → (u ≡ K .zero → ⊥) → power K u (p ^ suc n - 1) ≡ K .one
   unfolding residueField
   power-of-nonzero u h = ap (power K u) (sym nonzero-residues-length) ∙ power-units residueField nonzeroResidues nonzero-residues u h
+
+  -- u^(p^n) = u
+  pub power-of-size : (u : Residue p (suc n)) → power K u (p ^ suc n) ≡ u
+  power-of-size u =
+      let size : suc (p ^ suc n - 1) ≡ p ^ suc n = omega (arith, one-le-pow (suc n) p (omega (arith, prime .0))) in
+      ap (power K u) (sym size) ∙ by-zero (residue-discrete p (suc n) u (K .zero))
+    where
+      by-zero : Dec (u ≡ K .zero) → power K u (suc (p ^ suc n - 1)) ≡ u
+      by-zero (yes z) = ap (λ v. power K v (suc (p ^ suc n - 1))) z ∙ power-of-zero K (p ^ suc n - 1) ∙ sym z
+      by-zero (no h) = power-suc K u (p ^ suc n - 1) ∙ ap (K .mul u) (power-of-nonzero u h) ∙ K .mul-one u
