@@ -52,7 +52,7 @@ module _ {A : Type 0} (R : CommutativeRing A) (p : ℕ) (z : A) (fixed : power R
       power-suc R z (p * geometricSum p k)
       ∙ ap (R .mul z) (power-mul R z p (geometricSum p k) ∙ ap (λ x. power R x (geometricSum p k)) fixed ∙ power-geometric k) ∙ sym (power-suc R z k)
 
-  pub power-fixed : (k : ℕ) → power R (power R z k) p ≡ power R z k
+  power-fixed : (k : ℕ) → power R (power R z k) p ≡ power R z k
   power-fixed k = sym (power-mul R z k p) ∙ ap (power R z) (ℕ·mul-comm k p) ∙ power-mul R z p k ∙ ap (λ x. power R x k) fixed
 
   -- a^(p^k) = z^k·a

@@ -1,7 +1,9 @@
 -- From a common relation to a pair of inverse maps. Let α1 modulo T1 and α2 modulo T2 be generators with one relation: the powers of each are independent,
 -- and Q(α1) = 0, Q(α2) = 0 for one monic Q of degree n. With Pi(αi) = X, the map X ↦ S = P1(α2) modulo T2 preserves sums and products and sends α1 to α2,
--- hence f(α1) to f(α2) for every polynomial f. So R = P2(α1) goes to P2(α2) = X; and the map to T2 followed by that to T3 is the map to T3.
---   Generator p n q t a   the n words a have independent powers modulo T, and Q(a) = 0 modulo T
+-- hence f(α1) to f(α2) for every polynomial f. So R = P2(α1) goes to P2(α2) = X; and P0(α1), the S of a map from T0 to T1, goes to
+-- P0(α2), so that the map to T1 followed by that to T2 is the map to T2.
+--   Generator p n q t a       the n words a have independent powers modulo T, and Q(a) = 0 modulo T
+--   Related p n t1 t2 a1 a2   a1 modulo T1 and a2 modulo T2 are generators with one relation Q
 use mathlib.Core.Path.{_≡_, sym, ap, _∙_}
 use mathlib.Core.List.{List}
 use Prim.Native.Nat.{ℕ, suc, _≤_}
@@ -18,8 +20,25 @@ pub record Generator (p n : ℕ) (q t a : List ℕ) : Type 0 where
   pub root : modulusAt p t a q ≡ constant n 0
   pub independent : Independent p n t a
 
-module _ {p n : ℕ} {q t1 t2 a1 a2 : List ℕ} (big : 2 ≤ p) (wq : Words p (suc n) q) (w1 : Words p (suc n) t1) (w2 : Words p (suc n) t2)
-    (g1 : Generator p (suc n) q t1 a1) (g2 : Generator p (suc n) q t2 a2) where
+pub record Related (p n : ℕ) (t1 t2 a1 a2 : List ℕ) : Type 0 where
+  pub q : List ℕ
+  pub q-words : Words p n q
+  pub first : Generator p n q t1 a1
+  pub second : Generator p n q t2 a2
+
+module _ {p n : ℕ} {t1 t2 a1 a2 : List ℕ} (big : 2 ≤ p) (w1 : Words p (suc n) t1) (w2 : Words p (suc n) t2) (h : Related p (suc n) t1 t2 a1 a2) where
+  abbrev q : List ℕ
+  q = h .q
+
+  wq : Words p (suc n) q
+  wq = h .q-words
+
+  g1 : Generator p (suc n) q t1 a1
+  g1 = h .first
+
+  g2 : Generator p (suc n) q t2 a2
+  g2 = h .second
+
   abbrev p1 : List ℕ
   p1 = express p t1 a1
 
@@ -61,9 +80,3 @@ module _ {p n : ℕ} {q t1 t2 a1 a2 : List ℕ} (big : 2 ≤ p) (wq : Words p (s
 
   pub backward-image : substitute p t2 s r ≡ residueOfX p t2
   backward-image = polynomial-image (express p t2 a2) ∙ express-is big w2 (g2 .words) (g2 .independent) .1
-
--- from T1 to T2 to T3
-module _ {p n : ℕ} {q t1 t2 t3 a1 a2 a3 : List ℕ} (big : 2 ≤ p) (wq : Words p (suc n) q) (w1 : Words p (suc n) t1) (w2 : Words p (suc n) t2) (w3 : Words p (suc n) t3)
-    (g1 : Generator p (suc n) q t1 a1) (g2 : Generator p (suc n) q t2 a2) (g3 : Generator p (suc n) q t3 a3) where
-  pub triangle : substitute p t3 (substitute p t3 a3 (express p t2 a2)) (substitute p t2 a2 (express p t1 a1)) ≡ substitute p t3 a3 (express p t1 a1)
-  triangle = polynomial-image big wq w2 w3 g2 g3 (express p t1 a1)

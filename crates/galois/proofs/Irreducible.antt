@@ -24,7 +24,7 @@ use Rattle.galois.specs.Eigenvector.{Eigenvector}
 use Rattle.roots.specs.Roots.{OrderModulo}
 use Rattle.galois.specs.Express.{Independent}
 use Rattle.galois.proofs.Eigenvector.{Eigen, eigen-exists, eigen-multiple, eigen-constant, eigen-constant-root}
-use Rattle.galois.proofs.Independence.{evaluate-injective}
+use Rattle.galois.proofs.Independence.{Apart, evaluate-injective, eigen-apart}
 use Rattle.galois.proofs.ResidueEigenvector.{ring-eigenvector, list-eigenvector}
 use Rattle.galois.proofs.ResidueConstants.{ring-proper, fixed-constant, constant-power-is, power-numeral}
 use Rattle.roots.proofs.Zeta.{constant-order, power-modulo}
@@ -41,6 +41,12 @@ module _ {p n : ℕ} {t : List ℕ} (prime : Prime p) (wt : Words p (suc n) t) (
 
   pub nonzero-count : suc (length (nonzeroResidues prime wt irreducible)) ≡ p ^ suc n
   nonzero-count = omega (arith, nonzero-residues-length prime wt irreducible, one-le-pow (suc n) p (omega arith))
+
+  -- n distinct conjugates give independent powers
+  pub conjugates-independent : (u : Residue p (suc n)) → Apart K p u (suc n) → Independent p (suc n) t (u .0)
+  unfolding residueField
+  conjugates-independent u apart f g wf wg e =
+      evaluate-injective F p prime vanishes u (suc n) apart wf wg (residue-path (sym (substitute-is (prime .0) wt u f) ∙ e ∙ substitute-is (prime .0) wt u g))
 
   module _ (z : ℕ) (order : OrderModulo p (suc n) z) where
     abbrev ζ : Residue p (suc n)
@@ -81,9 +87,7 @@ module _ {p n : ℕ} {t : List ℕ} (prime : Prime p) (wt : Words p (suc n) t) (
 
       pub eigenvector-independent : Independent p (suc n) t v
       unfolding residueField
-      eigenvector-independent f g wf wg e =
-          evaluate-injective F p prime vanishes ζ α (fixed-constant prime wt z) eigen (suc n) order-is wf wg
-          (residue-path (sym (substitute-is (prime .0) wt α f) ∙ e ∙ substitute-is (prime .0) wt α g))
+      eigenvector-independent = conjugates-independent α (eigen-apart F p prime vanishes α ζ (fixed-constant prime wt z) eigen (suc n) order-is)
 
   pub eigenvector-multiple : (z : ℕ) {v u : List ℕ} → Eigenvector p (suc n) t z v → Eigenvector p (suc n) t z u → (c : ℕ) × (0 < c) × (c < p) × (u ≡ scale p c v)
   unfolding residueField

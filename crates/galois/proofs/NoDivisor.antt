@@ -3,7 +3,7 @@
 -- residues modulo D, against the order of ζ.
 use mathlib.Core.Path.{_≡_, sym, ap, _∙_}
 use mathlib.Core.List.{List}
-use Prim.Native.Nat.{ℕ, zero, suc, _<_}
+use Prim.Native.Nat.{ℕ, zero, suc, _≤_, _<_}
 use native.Mathlib.Nat.{pos-of-ne-zero}
 use native.Mathlib.Omega.{arith}
 use Rattle.algebra.specs.Prime.{Prime}
@@ -28,6 +28,14 @@ use Rattle.galois.proofs.Irreducible.{nonzero-count}
 use Rattle.galois.proofs.ResidueEigenvector.{ring-eigenvector}
 use Rattle.galois.proofs.ResidueConstants.{ring-proper, fixed-constant, constant-is-word, power-numeral}
 use Rattle.roots.proofs.Zeta.{constant-order, power-of-numeral}
+
+-- a T with a proper divisor has one that has none itself
+pub without-divisor : {p n : ℕ} {t : List ℕ} → 2 ≤ p → Words p (suc n) t
+    → ((m : ℕ) (d : List ℕ) → Words p (suc m) d → suc m < suc n → Divides p d t → (HasDivisor p d → ⊥) → ⊥) → HasDivisor p t → ⊥
+without-divisor big wt none (zero, low, high, d, wd, h) = absurd (omega arith)
+without-divisor {p} {t = t} big wt none (suc i, low, high, d, wd, h) =
+    let (m, d', le, wd', h', irreducible) = irreducible-divisor p i d big wd in
+    none m d' wd' (omega (arith, words-length wt)) (divides-transitive big wd' d t h' h) irreducible
 
 module _ {A B : Type 0} {R : CommutativeRing A} {S : CommutativeRing B} {f : A → B} (h : Homomorphism R S f) where
   -- the image of an eigenvector is an eigenvector if its n-th power is not 0
@@ -73,7 +81,4 @@ module _ {p n : ℕ} {t : List ℕ} (prime : Prime p) (wt : Words p (suc n) t) (
         (nonzero-residues prime wd irreducible) (suc m) (nonzero-count prime wd irreducible) (fixed-constant prime wd z) (reduce (prime .0) wd v) image)
 
     pub no-divisor : HasDivisor p t → ⊥
-    no-divisor (zero, low, high, d, wd, h) = absurd (omega arith)
-    no-divisor (suc i, low, high, d, wd, h) =
-        let (m, d', le, wd', h', irreducible) = irreducible-divisor p i d (prime .0) wd in
-        no-small-divisor wd' (omega (arith, words-length wt)) (divides-transitive (prime .0) wd' d t h' h) irreducible
+    no-divisor = without-divisor (prime .0) wt (λ m d wd. no-small-divisor wd)
