@@ -1,4 +1,3 @@
 -- The laws on which the proofs of `kernel` rest.
-mod DiagonalScan
 mod FrobeniusSystem
 mod Resolvent

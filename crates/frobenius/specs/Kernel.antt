@@ -1,5 +1,4 @@
 -- The eigenvector of the p-th power as the code finds it: in the kernel of u ↦ u^p − z·u.
---   Shifted p n z m c           the matrix c is m − z: z is subtracted on the diagonal
 --   Stretched p n z m u         u is not 0, and the matrix m takes it to z·u
 --   Kernel p n t z regular v    regular: only 0 satisfies u^p = z·u modulo T; else v satisfies it and is not 0
 --   Divided p n t v root u b    the array u holds v divided by its first coefficient that is not zero; root: its n-th power modulo T is the constant b
@@ -8,20 +7,15 @@
 use mathlib.Core.Path.{_≡_}
 use mathlib.Core.Bool.{Bool, true, false, not}
 use mathlib.Core.List.{List}
-use Prim.Native.Nat.{ℕ, _+_, _-_, _%_, _<_}
-use lib.ListN.{length, take}
-use Rattle.array.specs.Array.{entry, Holds}
+use Prim.Native.Nat.{ℕ, _<_}
+use lib.ListN.{take}
+use Rattle.array.specs.Array.{Holds}
 use Rattle.modular.specs.Inverse.{inverse}
 use Rattle.quotient.specs.DivisorTest.{hasDivisor}
 use Rattle.array.specs.Words.{Words}
 use Rattle.quotient.specs.Residue.{scale, constant, power}
 use Rattle.matrix.specs.Matrix.{matrixProduct}
 use Rattle.galois.specs.Eigenvector.{firstNonZero, Normalised}
-
-pub record Shifted (p n z : ℕ) (m c : List ℕ) : Type 0 where
-  pub size : length c ≡ 256
-  pub diagonal : (i : ℕ) → i < n → entry c i i ≡ (entry m i i + (p - z)) % p
-  pub others : (i j : ℕ) → i < n → j < n → (j ≡ i → ⊥) → entry c i j ≡ entry m i j
 
 pub record Stretched (p n z : ℕ) (m u : List ℕ) : Type 0 where
   pub not-zero : u ≡ constant n 0 → ⊥

@@ -10,10 +10,10 @@ ghost use Rattle.quotient.specs.Residue.{constant};
 ghost use Rattle.frobenius.specs.Kernel.{Divided, EigenvectorFound};
 ghost use Rattle.roots.specs.Roots.{Admissible, OrderModulo};
 use crate::kernel::kernel;
-use crate::vector::is_constant;
-use crate::vector::normalise;
 use residue::ring::power;
 use roots::radicand::is_radicand;
+use scalar::vector::is_constant;
+use scalar::vector::normalise;
 
 // Whether T has no monic divisor of degree 1 to n − 1; and then an eigenvector v whose first word that is not 0 is 1, and the constant v^n.
 pub struct Normalised {

@@ -36,13 +36,16 @@ fn is_expression(p: u64, n: usize, t: &[u64; 16], m: &[u64; 256], polynomial: &[
     is_x(p, n, t, &value)
 }
 
-// The polynomial P by traces, as it is where a1^n is the constant a; if that fails the test, by elimination.
+// The polynomial P by traces, as it is where a1^n is the constant a; if that fails the test, or a is 0, by elimination.
 fn polynomial(p: u64, n: usize, a: u64, t: &[u64; 16], m: &[u64; 256]) -> [u64; 16]
     requires { ⌜ Prime p ⌝ }
     requires { ⌜ (p ≤ 2 ^ 20) × (1 ≤ n) × (n ≤ 16) × (a < p) ⌝ }
     requires { ⌜ Holds p n (now t) × Square p n (now m) ⌝ }
     ensures { λ r. ⌜ Expression p n (take n (now (t .entry))) (now (m .entry)) r ⌝ }
 {
+    if a == 0 {
+        return by_elimination(p, n, t, m);
+    }
     let guess = expression(p, n, a, t, m);
     if is_expression(p, n, t, m, &guess) {
         return guess;
@@ -50,7 +53,8 @@ fn polynomial(p: u64, n: usize, a: u64, t: &[u64; 16], m: &[u64; 256]) -> [u64; 
     by_elimination(p, n, t, m)
 }
 
-// P(a2), where P(a1) = X modulo T: the columns of m1 are the powers of a1 modulo T, those of m2 the powers of a2. Only for speed is a the constant a1^n.
+// P(a2), where P(a1) = X modulo T: the columns of m1 are the powers of a1 modulo T, those of m2 the powers of a2. Only for speed is a the constant a1^n, or 0
+// where a1^n is none.
 pub fn image(p: u64, n: usize, a: u64, t: &[u64; 16], m1: &[u64; 256], m2: &[u64; 256]) -> [u64; 16]
     requires { ⌜ Prime p ⌝ }
     requires { ⌜ (p ≤ 2 ^ 20) × (1 ≤ n) × (n ≤ 16) × (a < p) ⌝ }

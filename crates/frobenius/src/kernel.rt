@@ -6,30 +6,16 @@ ghost use lib.ListN.{length, take};
 ghost use Rattle.algebra.specs.Prime.{Prime};
 ghost use Rattle.array.specs.Array.{Square, Holds};
 ghost use Rattle.matrix.specs.Matrix.{Frobenius};
-ghost use Rattle.frobenius.specs.Kernel.{Shifted, Stretched, Kernel};
-use crate::vector::first_non_zero;
-use crate::vector::scale;
+ghost use Rattle.frobenius.specs.Kernel.{Stretched, Kernel};
 use comparison::equality::same;
 use linear::system::Solution;
 use linear::system::solve;
 use matrix::frobenius::frobenius;
 use matrix::product::apply;
-use modular::word::sub;
 use resolvent::lagrange::resolvent;
-
-// Makes the matrix m the matrix m − z.
-fn minus(p: u64, n: usize, z: u64, m: &mut [u64; 256])
-    requires { ⌜ (p ≤ 2 ^ 20) × (n ≤ 16) × (z < p) ⌝ }
-    requires { ⌜ Square p n (now m) ⌝ }
-    ensures { λ _. ⌜ Shifted p n z (now (m .entry)) (now (m .exit)) ⌝ }
-{
-    let mut i = 0;
-    while i < n {
-        let k = 16 * i + i;
-        m[k] = sub(p, m[k], z);
-        i += 1;
-    }
-}
+use scalar::shift::minus;
+use scalar::vector::first_non_zero;
+use scalar::vector::scale;
 
 // Whether v is not 0 and the matrix m takes it to z·v.
 fn is_eigenvector(p: u64, n: usize, z: u64, m: &[u64; 256], v: &[u64; 16]) -> bool

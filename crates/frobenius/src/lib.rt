@@ -3,9 +3,7 @@
 //   eigenvector   an eigenvector, which also decides whether a modulus has a proper divisor
 //   scaling       its multiple whose n-th power is a given number
 //   image         the polynomial that takes one residue to X, at another residue
-//   vector        multiples of residues, and division by the first word that is not 0
 pub mod eigenvector;
 pub mod image;
 mod kernel;
 pub mod scaling;
-pub mod vector;

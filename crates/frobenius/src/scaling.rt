@@ -6,9 +6,9 @@ ghost use Rattle.array.specs.Array.{padded, Holds};
 ghost use Rattle.quotient.specs.Residue.{scale as scaleOf};
 ghost use Rattle.roots.specs.Roots.{rootOfRatio, Admissible, OrderModulo, Radicand};
 use crate::eigenvector::Normalised;
-use crate::vector::scale;
 use roots::root::Group;
 use roots::root::root_of_ratio;
+use scalar::vector::scale;
 
 // k·v for the smallest k from 1 to p − 1 with k^n·v^n = a.
 pub fn scaling(p: u64, n: usize, z: u64, by: Group, a: u64, v: Normalised) -> [u64; 16]

@@ -1,7 +1,8 @@
 -- `by_elimination`: the solutions of the system are the u with u^p = z·u.
 use borrow.Author.Needs.{needs}
 use Rattle.matrix.proofs.FrobeniusMatrix.{frobenius-square}
-use Rattle.frobenius.proofs.kernel.FrobeniusSystem.{zero-holds, kernel-square, kernel-is}
+use Rattle.scalar.proofs.ShiftedMatrix.{zero-holds}
+use Rattle.frobenius.proofs.kernel.FrobeniusSystem.{kernel-square, kernel-is}
 use Rattle.frobenius.proofs.kernel.by_elimination.Statement.{statement}
 use Rattle.frobenius.proofs.kernel.by_elimination.Tie as tie
 

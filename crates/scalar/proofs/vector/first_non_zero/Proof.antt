@@ -1,9 +1,9 @@
 -- `first_non_zero` scans the words from the first on.
 use borrow.Author.Needs.{needs}
 use Prim.Native.Nat.{_-_}
-use Rattle.frobenius.proofs.vector.VectorScan.{ZerosBefore, firstNonZero-start, firstNonZero-turn, firstNonZero-found, firstNonZero-none}
-use Rattle.frobenius.proofs.vector.first_non_zero.Statement.{statement}
-use Rattle.frobenius.proofs.vector.first_non_zero.Tie as tie
+use Rattle.scalar.proofs.vector.VectorScan.{ZerosBefore, firstNonZero-start, firstNonZero-turn, firstNonZero-found, firstNonZero-none}
+use Rattle.scalar.proofs.vector.first_non_zero.Statement.{statement}
+use Rattle.scalar.proofs.vector.first_non_zero.Tie as tie
 
 abbrev Inv-loop : tie.InvT-loop
 Inv-loop p n u i₀ i = ZerosBefore n u i

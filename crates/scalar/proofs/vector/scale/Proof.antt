@@ -3,9 +3,9 @@ use borrow.Author.Needs.{needs}
 use mathlib.Core.Path.{_≡_}
 use Prim.Native.Nat.{_-_, _≤_}
 use Rattle.array.proofs.Painted.{painted, painted-none}
-use Rattle.frobenius.proofs.vector.VectorScan.{scaledWord, word-small, scale-turn, scale-done}
-use Rattle.frobenius.proofs.vector.scale.Statement.{statement}
-use Rattle.frobenius.proofs.vector.scale.Tie as tie
+use Rattle.scalar.proofs.vector.VectorScan.{scaledWord, word-small, scale-turn, scale-done}
+use Rattle.scalar.proofs.vector.scale.Statement.{statement}
+use Rattle.scalar.proofs.vector.scale.Tie as tie
 
 abbrev Inv-loop : tie.InvT-loop
 Inv-loop p n c u w₀ i₀ w i = (i ≤ n) × (w ≡ painted w₀ (scaledWord p c u) i)

@@ -1,9 +1,9 @@
 -- `is_constant` scans the words after the first.
 use borrow.Author.Needs.{needs}
 use Prim.Native.Nat.{_-_}
-use Rattle.frobenius.proofs.vector.VectorScan.{Constant, constant-start, constant-turn, constant-fails, constant-holds}
-use Rattle.frobenius.proofs.vector.is_constant.Statement.{statement}
-use Rattle.frobenius.proofs.vector.is_constant.Tie as tie
+use Rattle.scalar.proofs.vector.VectorScan.{Constant, constant-start, constant-turn, constant-fails, constant-holds}
+use Rattle.scalar.proofs.vector.is_constant.Statement.{statement}
+use Rattle.scalar.proofs.vector.is_constant.Tie as tie
 
 abbrev Inv-loop : tie.InvT-loop
 Inv-loop p n u i₀ i = Constant n u i

@@ -1,9 +1,9 @@
 -- `minus` subtracts z from the words of the diagonal one after another.
 use borrow.Author.Needs.{needs}
 use Prim.Native.Nat.{_-_}
-use Rattle.frobenius.proofs.kernel.DiagonalScan.{Diagonal, diagonal-start, diagonal-below, diagonal-turn, diagonal-end}
-use Rattle.frobenius.proofs.kernel.minus.Statement.{statement}
-use Rattle.frobenius.proofs.kernel.minus.Tie as tie
+use Rattle.scalar.proofs.shift.DiagonalScan.{Diagonal, diagonal-start, diagonal-below, diagonal-turn, diagonal-end}
+use Rattle.scalar.proofs.shift.minus.Statement.{statement}
+use Rattle.scalar.proofs.shift.minus.Tie as tie
 
 abbrev Inv-loop : tie.InvT-loop
 Inv-loop p n z m₀ i₀ m i = Diagonal p z i m₀ m

@@ -1,8 +1,8 @@
 -- `normalise`: the first word that is not 0 has an inverse.
 use borrow.Author.Needs.{needs}
-use Rattle.frobenius.proofs.vector.VectorScan.{firstNonZero-positive-word, firstNonZero-small-word, normalised-is, normalised-holds}
-use Rattle.frobenius.proofs.vector.normalise.Statement.{statement}
-use Rattle.frobenius.proofs.vector.normalise.Tie as tie
+use Rattle.scalar.proofs.vector.VectorScan.{firstNonZero-positive-word, firstNonZero-small-word, normalised-is, normalised-holds}
+use Rattle.scalar.proofs.vector.normalise.Statement.{statement}
+use Rattle.scalar.proofs.vector.normalise.Tie as tie
 
 first-non-zero-requires : tie.Need-first-non-zero-requires
 first-non-zero-requires c κs = search needs

@@ -8,7 +8,7 @@ use native.Mathlib.Omega.{arith}
 use lib.ListN.{length, set, length-set}
 use lib.Seq.{getD-set-same, getD-set-other}
 use Rattle.array.specs.Array.{entry, Square}
-use Rattle.frobenius.specs.Kernel.{Shifted}
+use Rattle.scalar.specs.Shifted.{Shifted}
 
 pub record Diagonal (p z k : ℕ) (m c : List ℕ) : Type 0 where
   pub size : length c ≡ 256

@@ -1,0 +1,2 @@
+-- The laws on which the proof of `minus` rests.
+mod DiagonalScan

@@ -1,0 +1,2 @@
+-- What the contract on M − z cites.
+pub mod Shifted
