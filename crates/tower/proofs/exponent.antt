@@ -1,0 +1,2 @@
+-- The laws on which the proofs of `exponent` rest.
+mod Powers
