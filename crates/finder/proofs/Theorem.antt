@@ -1,8 +1,8 @@
 -- The proof of demand 3, as specs/Theorem.antt states it. The checker's half is the theorem of the crate pair. The finder's answer is 0 exactly when
--- none of its refusals applies; for two models and n that divides p − 1 only 6 and 7 are left, which test for proper divisors, and the test is exact.
+-- none of its refusals applies; for two models of a size that the finder takes only 6 and 7 are left, which test for proper divisors, and the test is exact.
 -- Without those the searches find the chosen pair, it satisfies the congruences, and the checker accepts it; so it does with every other scaling's pair.
 --   Returned p n t1 t2   what the answer 0 says of two models
---   decided              where n divides p − 1, what 6 and 7 say is the answer
+--   decided              for such a size, what 6 and 7 say is the answer
 use mathlib.Core.Path.{_≡_, refl, sym, ap, subst₂, _∙_}
 use mathlib.Core.Bool.{Bool, true, false}
 use mathlib.Core.List.{List, [], _∷_}
@@ -22,11 +22,11 @@ use Rattle.finder.specs.Finder.{Findable, refuseFind, findS, findR, find
 use Rattle.finder.specs.Stored.{EveryScalingAccepted}
 use Rattle.finder.specs.Theorem.{ChosenPair, Demand3Theorem}
 use Rattle.finder.proofs.Values.{PairLaws, pair-laws}
-use Rattle.finder.proofs.ChosenPair.{PairHolds}
-use Rattle.finder.proofs.Findable.{findable-true, none-apply, find-models, models-admissible}
+use Rattle.finder.proofs.Construction.{PairHolds}
+use Rattle.finder.proofs.Findable.{findable-true, none-apply, find-models, models-size}
 
 record Returned (p n : ℕ) (t1 t2 : List ℕ) : Type 0 where
-  divides : Findable p n
+  findable : Findable p n
   irreducible1 : HasDivisor p t1 → ⊥
   irreducible2 : HasDivisor p t2 → ⊥
 
@@ -46,16 +46,16 @@ module _ (p n : ℕ) (t1 t2 : List ℕ) (models : Models p n t1 t2) (lentS lentR
   unfolding findNumber
   returned h =
       let (_, h5) = sent-given p n (t1 ∷ t2 ∷ lentS ∷ lentR ∷ []) (t1 ∷ t2 ∷ []) _ h in
-      let (divides, first, second) = none-apply p n t1 t2 h5 in
+      let (findable, first, second) = none-apply p n t1 t2 h5 in
       record {
-        divides = divides;
+        findable = findable;
         irreducible1 = test-irreducible (models .prime .0) (models .modulus1) first;
         irreducible2 = test-irreducible (models .prime .0) (models .modulus2) second;
       }
 
-  module _ (divides : Findable p n) (lengthS : length lentS ≡ n) (lengthR : length lentR ≡ n) where
+  module _ (findable : Findable p n) (lengthS : length lentS ≡ n) (lengthR : length lentR ≡ n) where
     decided : findNumber p n t1 t2 lentS lentR ≡ refuse 6 (hasDivisor p t1) (refuse 7 (hasDivisor p t2) 0)
-    decided = find-models p n t1 t2 models lentS lentR lengthS lengthR ∙ rw (findable-true p n divides)
+    decided = find-models p n t1 t2 models lentS lentR lengthS lengthR ∙ rw (findable-true p n (models .prime .0) findable)
 
     none1 : (HasDivisor p t1 → ⊥) → hasDivisor p t1 ≡ false
     none1 = irreducible-test (models .prime .0) (models .modulus1)
@@ -88,15 +88,15 @@ module _ (p n : ℕ) (t1 t2 : List ℕ) (models : Models p n t1 t2) where
   -- the pair that is found is chosen, and the checker accepts it
   found-accepted : Findable p n → (HasDivisor p t1 → ⊥) → (HasDivisor p t2 → ⊥)
       → ChosenPair p n t1 t2 (findS p n t1 t2) (findR p n t1 t2) × (checkNumber p n t1 t2 (findS p n t1 t2) (findR p n t1 t2) ≡ 0)
-  found-accepted divides irreducible1 irreducible2 =
-      let h : ChosenPair p n t1 t2 (findS p n t1 t2) (findR p n t1 t2) = laws .chosen (models-admissible p n t1 t2 models divides) irreducible1 irreducible2 in
+  found-accepted findable irreducible1 irreducible2 =
+      let h : ChosenPair p n t1 t2 (findS p n t1 t2) (findR p n t1 t2) = laws .chosen (models-size p n t1 t2 models findable) irreducible1 irreducible2 in
       (h, accepted (laws .chosen-pair h))
 
 -- where 5 to 7 do not apply to two models, the checker accepts the pair
 pub accepted-pair : (p n : ℕ) (t1 t2 : List ℕ) → Models p n t1 t2 → refuseFind p n t1 t2 ≡ 0 → checkNumber p n t1 t2 (findS p n t1 t2) (findR p n t1 t2) ≡ 0
 accepted-pair p n t1 t2 models h =
-    let (divides, first, second) = none-apply p n t1 t2 h in
-    found-accepted p n t1 t2 models divides (test-irreducible (models .prime .0) (models .modulus1) first) (test-irreducible (models .prime .0) (models .modulus2) second) .1
+    let (findable, first, second) = none-apply p n t1 t2 h in
+    found-accepted p n t1 t2 models findable (test-irreducible (models .prime .0) (models .modulus1) first) (test-irreducible (models .prime .0) (models .modulus2) second) .1
 
 -- where the number is 0 the lent lists hold what is found
 module _ (p n : ℕ) (t1 t2 lentS lentR : List ℕ) (zero-number : findNumber p n t1 t2 lentS lentR ≡ 0) where
@@ -112,16 +112,16 @@ pub demand-3 : Demand3Theorem
 demand-3 p n t1 t2 models =
     record {
       accepted = λ s r h. checker-theorem p n t1 t2 s r .0 h .3;
-      returns = λ divides lentS lentR lengthS lengthR. (
+      returns = λ findable lentS lentR lengthS lengthR. (
         λ h. let c : Returned p n t1 t2 = returned p n t1 t2 models lentS lentR h in (c .irreducible1, c .irreducible2),
-        λ i. returns p n t1 t2 models lentS lentR divides lengthS lengthR (i .0) (i .1),
+        λ i. returns p n t1 t2 models lentS lentR findable lengthS lengthR (i .0) (i .1),
       );
-      six = λ divides lentS lentR lengthS lengthR. six p n t1 t2 models lentS lentR divides lengthS lengthR;
-      seven = λ divides lentS lentR lengthS lengthR. seven p n t1 t2 models lentS lentR divides lengthS lengthR;
+      six = λ findable lentS lentR lengthS lengthR. six p n t1 t2 models lentS lentR findable lengthS lengthR;
+      seven = λ findable lentS lentR lengthS lengthR. seven p n t1 t2 models lentS lentR findable lengthS lengthR;
       found = λ lentS lentR h.
           let c : Returned p n t1 t2 = returned p n t1 t2 models lentS lentR h in
           subst₂ (λ s r. ChosenPair p n t1 t2 s r × (checkNumber p n t1 t2 s r ≡ 0)) (sym (output-s p n t1 t2 lentS lentR h)) (sym (output-r p n t1 t2 lentS lentR h))
-          (found-accepted p n t1 t2 models (c .divides) (c .irreducible1) (c .irreducible2));
+          (found-accepted p n t1 t2 models (c .findable) (c .irreducible1) (c .irreducible2));
       only-one = laws p n t1 t2 models .only-one;
     }
 

@@ -1,5 +1,5 @@
--- Round the triangle (document 02, S-6): for every three models A, B and C of the same p and n without proper divisors, where n divides p − 1, the found map A to B followed
--- by the found map B to C is the found map A to C. Each found map takes α of its source to α of its target, and a map is determined by that.
+-- Round the triangle (document 02, S-6 and S-7): for every three models A, B and C of the same p and n without proper divisors, where n divides p − 1 or is a power of p, the found map
+-- A to B followed by the found map B to C is the found map A to C. Each found map takes α of its source to α of its target, and a map is determined by that.
 --   Triangle p n a b c   on every residue, forward from A and back from C; as an equation of polynomials, S_AC = S_AB(S_BC) modulo C and R_AC = R_BC(R_AB) modulo A;
 --                        and with A and B exchanged the found pair is exchanged
 use mathlib.Core.Path.{_≡_}

@@ -16,7 +16,7 @@ use Rattle.array.proofs.Padded.{front-is, holds-is}
 use Rattle.finder.specs.Construct.{FoundPair}
 use Rattle.finder.specs.Finder.{findS, findR, refuseFind, findNumber, findOutputS, findOutputR}
 use Rattle.refusal.specs.Models.{Models}
-use Rattle.finder.proofs.Findable.{none-apply, models-admissible}
+use Rattle.finder.proofs.Findable.{none-apply, models-size}
 use Rattle.finder.proofs.Values.{PairLaws, pair-laws}
 
 -- the arrays that hold the moduli
@@ -51,9 +51,9 @@ module _ (p n : ℕ) (t1 t2 : List ℕ) (m : Models p n t1 t2) where
     module _ (zero-is : number ≡ 0) where
       words : Words p n (findS p n t1 t2) × Words p n (findR p n t1 t2)
       words =
-          let (divides, first, second) = none-apply p n t1 t2 (sym (found .number-is) ∙ zero-is) in
+          let (findable, first, second) = none-apply p n t1 t2 (sym (found .number-is) ∙ zero-is) in
           let laws : PairLaws p n t1 t2 = pair-laws p (m .prime) n (m .degree .0) t1 t2 (m .modulus1) (m .modulus2) in
-          laws .chosen-pair (laws .chosen (models-admissible p n t1 t2 m divides) (test-irreducible (m .prime .0) (m .modulus1) first) (test-irreducible (m .prime .0) (m .modulus2) second)) .words
+          laws .chosen-pair (laws .chosen (models-size p n t1 t2 m findable) (test-irreducible (m .prime .0) (m .modulus1) first) (test-irreducible (m .prime .0) (m .modulus2) second)) .words
 
       module _ (out : List ℕ) (size : length out ≡ n) where
         stores : (u w : List ℕ) → w ≡ padded u → Words p n u → Holds wordBound (length out) w

@@ -1,6 +1,6 @@
 -- `from_eigenvectors`: a modulus without an eigenvector is refused, T1 before T2; otherwise c exists.
 use borrow.Author.Needs.{needs}
-use Rattle.finder.proofs.construct.Constructed.{zeta-has-order, refused-first, refused-second, found-answer}
+use Rattle.finder.proofs.construct.FromEigenvectors.{zeta-has-order, refused-first, refused-second, found-answer}
 use Rattle.finder.proofs.construct.from_eigenvectors.Statement.{statement}
 use Rattle.finder.proofs.construct.from_eigenvectors.Tie as tie
 

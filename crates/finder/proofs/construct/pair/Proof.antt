@@ -1,6 +1,7 @@
 -- `pair`: both eigenvectors have a scaling whose n-th power is a, and it is α.
 use borrow.Author.Needs.{needs}
-use Rattle.finder.proofs.construct.Constructed.{zeta-has-order, found-holds, found-radicand, choices}
+use Rattle.finder.proofs.construct.FromEigenvectors.{zeta-has-order, found-holds, found-radicand, choices}
+use Rattle.finder.proofs.construct.Numbers.{first-size}
 use Rattle.finder.proofs.construct.pair.Statement.{statement}
 use Rattle.finder.proofs.construct.pair.Tie as tie
 
@@ -17,7 +18,7 @@ scaling-requires-2 : tie.Need-scaling-requires-2
 scaling-requires-2 c κs = (search needs, (search needs, ((search needs, search zeta-has-order), ((search (needs, found-radicand), search found-radicand), search found-holds))))
 
 between-requires : tie.Need-between-requires
-between-requires c κs = (search needs, (search needs, (search needs, search choices)))
+between-requires c κs = (search first-size, (search needs, (search needs, search choices)))
 
 returns : tie.Need-returns
 returns c = search needs
