@@ -1,9 +1,5 @@
-// What the program `fieldcard` does: it reads one card from standard input, and writes the answer to standard output.
+// What the program `fieldcard` prints for a card, in definitions and theory (specs/, proofs/), and its parts as functions.
 //   lines     the lines that are printed
 //   job       the pair card of a job
-//   answer    what is printed for a card
-//   program   standard input and output
-pub mod answer;
-mod job;
-mod lines;
-pub mod program;
+pub mod job;
+pub mod lines;

@@ -1,4 +1,4 @@
 // The program `fieldcard`: it reads one card from standard input, and writes the answer to standard output.
 fn main() {
-    answer::program::run();
+    program::program::run();
 }

@@ -1,8 +1,8 @@
 -- `answer::print_pair` prints what the checker and the congruences decide.
 use borrow.Author.Needs.{needs}
-use Rattle.answer.proofs.answer.print_pair.Statement.{statement}
-use Rattle.answer.proofs.answer.print_pair.Tie as tie
+use Rattle.program.proofs.print.print_pair.Statement.{statement}
+use Rattle.program.proofs.print.print_pair.Tie as tie
 use Rattle.answer.proofs.Printed.{check-valid, check-ring, check-refusal}
 
 check-requires : tie.Need-check-requires
 check-requires c κs = search needs

@@ -1,10 +1,10 @@
 -- `answer::answer` prints what follows from what the reader says of the card.
 use borrow.Author.Needs.{needs}
 use native.Mathlib.Omega.{arith}
 use Rattle.answer.proofs.CardModels.{read-degree, job-models, pair-given}
 use Rattle.answer.proofs.CardAnswers.{counted, answer-refusal, answer-job, answer-pair}
-use Rattle.answer.proofs.answer.answer.Statement.{statement}
-use Rattle.answer.proofs.answer.answer.Tie as tie
+use Rattle.program.proofs.print.answer.Statement.{statement}
+use Rattle.program.proofs.print.answer.Tie as tie
 
 slice-aggregate-read : tie.Need-slice-aggregate-read
 slice-aggregate-read c = search needs

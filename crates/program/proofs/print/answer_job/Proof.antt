@@ -1,10 +1,10 @@
 -- `answer::answer_job` prints what the finder decides.
 use borrow.Author.Needs.{needs}
 use native.Mathlib.Omega.{arith}
 use Rattle.answer.proofs.Parts.{prefix-length}
 use Rattle.answer.proofs.Printed.{job-refusal, job-writable, job-line}
-use Rattle.answer.proofs.answer.answer_job.Statement.{statement}
-use Rattle.answer.proofs.answer.answer_job.Tie as tie
+use Rattle.program.proofs.print.answer_job.Statement.{statement}
+use Rattle.program.proofs.print.answer_job.Tie as tie
 
 find-pair-requires : tie.Need-find-pair-requires
 find-pair-requires c κs = search needs

@@ -1,10 +1,10 @@
 -- `answer::print_card` prints the card that is written.
 use borrow.Author.Needs.{needs}
 use native.Mathlib.Omega.{arith}
 use Rattle.answer.proofs.Parts.{prefix-length, prefix-most}
 use Rattle.answer.proofs.Printed.{line-of}
-use Rattle.answer.proofs.answer.print_card.Statement.{statement}
-use Rattle.answer.proofs.answer.print_card.Tie as tie
+use Rattle.program.proofs.print.print_card.Statement.{statement}
+use Rattle.program.proofs.print.print_card.Tie as tie
 
 slice-aggregate-write-card : tie.Need-slice-aggregate-write-card
 slice-aggregate-write-card c = search needs

@@ -1,9 +1,9 @@
 -- `answer::answer_pair` hands over the four parts of the words.
 use borrow.Author.Needs.{needs}
 use native.Mathlib.Omega.{arith}
 use Rattle.answer.proofs.Parts.{prefix-length, part-first, part-second, part-third, part-fourth, slices-given}
-use Rattle.answer.proofs.answer.answer_pair.Statement.{statement}
-use Rattle.answer.proofs.answer.answer_pair.Tie as tie
+use Rattle.program.proofs.print.answer_pair.Statement.{statement}
+use Rattle.program.proofs.print.answer_pair.Tie as tie
 
 slice-aggregate-print-pair : tie.Need-slice-aggregate-print-pair
 slice-aggregate-print-pair c = prefix-length _ _ (omega arith)

@@ -1,5 +1,5 @@
 // The program, from standard input to standard output.
-use crate::answer::answer;
+use crate::print::answer;
 
 // The buffer holds one byte more than the longest card: an input that fills it is too long, whatever follows.
 pub fn run() {
