@@ -13,7 +13,8 @@ use Rattle.card.specs.Bits.{bits, numberFrom, bytes, packed, unpacked}
 use Rattle.card.specs.Card.{width, badKind, allBits, card, cardLength, writeNumber, writeOutput, fieldAt, cardPrime, cardDegree, cardKind, fieldsAt, cardWords, fillBits, readNumber}
 use Rattle.roots.specs.Roots.{zeta, radicand, rootOfRatio}
 use Rattle.galois.specs.Eigenvector.{firstNonZero}
-use Rattle.finder.specs.Finder.{findable, findNumber}
+use Rattle.galois.specs.Tower.{exponent}
+use Rattle.finder.specs.Finder.{divides, findable, findNumber}
 use Rattle.modular.specs.Prime.{isPrime}
 use Rattle.array.specs.Words.{allBelow}
 use Rattle.refusal.specs.Refusal.{badPrime, isDegree, badDegree, badLength, badWord}
@@ -33,7 +34,7 @@ use Rattle.promises.proofs.Refused.{words-counted, factor-divides, indi
 
 pub examples : Examples
 unfolding hasDivisor dividesTest residues prefixed all equal first range bits numberFrom bytes packed width allBits card badKind cardLength writeNumber
-    writeOutput zeta radicand rootOfRatio firstNonZero findable findNumber isPrime badPrime isDegree badDegree badLength badWord allBelow congruencesHold checkNumberOr
+    writeOutput zeta radicand rootOfRatio firstNonZero exponent divides findable findNumber isPrime badPrime isDegree badDegree badLength badWord allBelow congruencesHold checkNumberOr
     monic polynomialProduct sum scale constant shift top timesX product power residueOfX substitute modulusAt padded valid validAs validHeld viewAs
     view pairedHeld eachGroup converted tableNumber validWith counted convertFrom convertNumber outputBy unpacked fieldAt cardPrime cardDegree cardKind
     fieldsAt cardWords fillBits readNumber part cardPart ringText printed pairLine pairCardText cardText

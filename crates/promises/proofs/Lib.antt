@@ -1,8 +1,10 @@
--- The proofs of all promises, of the examples, the sheets, the reports and the maps.
+-- The proofs of all promises, of the examples, the sheets, the reports, the maps and the towers.
 mod Promises
 mod Examples
 mod SheetExamples
 mod LedgerExamples
 mod MapsExamples
+mod TowerExamples
 mod Listed
+mod ListedTower
 mod Refused

@@ -9,6 +9,7 @@
 use mathlib.Core.Path.{_≡_, sym, ap, ap₂, _∙_, subst}
 use mathlib.Core.Bool.{false}
 use mathlib.Core.List.{List, [], _∷_}
+use mathlib.Core.Logic.{inl}
 use Prim.Native.Nat.{ℕ, suc, _-_, _/_, _%_, _^_, _≤_}
 use lib.ListN.{length}
 use Rattle.roots.specs.Roots.{zeta, radicand, rootOfRatio, Admissible, OrderModulo, Radicand}
@@ -17,12 +18,12 @@ use Rattle.galois.specs.Eigenvector.{alpha, firstNonZero, Alpha, Normalised}
 use Rattle.galois.specs.Express.{express, Independent}
 use Rattle.galois.proofs.Alpha.{alpha-found, alpha-is}
 use Rattle.galois.proofs.Express.{express-is, express-unique}
-use Rattle.galois.proofs.Generates.{constant-radicand, generates}
+use Rattle.galois.proofs.Generates.{constant-radicand, eigenvectors-related}
 use Rattle.galois.proofs.NoDivisor.{no-divisor}
 use Rattle.galois.proofs.Root.{RootOfConstant, root-normalised}
 use Rattle.galois.proofs.RootIndependent.{root-independent}
-use Rattle.finder.specs.Finder.{Findable, generator, findS, findR, findOutputS, findOutputR}
-use Rattle.finder.proofs.ChosenPair.{zeta-found, radicand-found}
+use Rattle.finder.specs.Finder.{generator, findS, findR, findOutputS, findOutputR}
+use Rattle.finder.proofs.Eigenvectors.{generator-first, zeta-found, radicand-found}
 use Rattle.finder.proofs.Findable.{models-admissible}
 use Rattle.finder.proofs.Theorem.{demand-3}
 use Rattle.pair.specs.Pair.{Congruences, checkNumber}
@@ -77,12 +78,12 @@ module _ {p n : ℕ} (h : Admissible p (suc n)) where
         irreducible = none;
         alpha-is = value;
         words = is .eigenvector .words;
-        independent = generates (h .prime) wt z order (is .eigenvector) a (is .root-is) .independent;
+        independent = eigenvectors-related (h .prime) wt wt z order (is .eigenvector) (is .eigenvector) a (is .root-is) (is .root-is) .first .independent;
       }
 
 record ListedPair (p n : ℕ) (t1 t2 : List ℕ) (z a : ℕ) (x y s r : List ℕ) : Type 0 where
   accepted : checkNumber p n t1 t2 s r ≡ 0
-  divides : Findable p n
+  divides : (p - 1) % n ≡ 0
   zeta-is : zeta p n ≡ z
   a-is : radicand p n z ≡ a
   first : AlphaListed p n t1 z a x
@@ -109,8 +110,7 @@ module _ {p n : ℕ} {t1 t2 : List ℕ} {z a : ℕ} {x y s r : List ℕ} (h : Li
   w2 = given .models .modulus2
 
   generator-is : (t : List ℕ) {u : List ℕ} → alpha p (suc n) t z a ≡ u → generator p (suc n) t ≡ u
-  unfolding generator
-  generator-is t e = ap₂ (alpha p (suc n) t) (h .zeta-is) (ap (radicand p (suc n)) (h .zeta-is) ∙ h .a-is) ∙ e
+  generator-is t e = generator-first p (suc n) t (h .divides) ∙ ap₂ (alpha p (suc n) t) (h .zeta-is) (ap (radicand p (suc n)) (h .zeta-is) ∙ h .a-is) ∙ e
 
   s-is : findS p (suc n) t1 t2 ≡ s
   unfolding findS
@@ -138,11 +138,11 @@ module _ {p n : ℕ} {t1 t2 : List ℕ} {z a : ℕ} {x y s r : List ℕ} (h : Li
         s-is = s-is;
         r-is = r-is;
         number-is = λ lentS lentR lengthS lengthR.
-            demand-3 p (suc n) t1 t2 (given .models) .returns (h .divides) lentS lentR lengthS lengthR .1 (h .first .irreducible, h .second .irreducible);
+            demand-3 p (suc n) t1 t2 (given .models) .returns (inl (h .divides)) lentS lentR lengthS lengthR .1 (h .first .irreducible, h .second .irreducible);
       }
 
 pub found : {p n : ℕ} {t1 t2 : List ℕ} {z a : ℕ} {v1 v2 : List ℕ} {b1 b2 k1 k2 : ℕ} {s r : List ℕ}
-    → checkNumber p (suc n) t1 t2 s r ≡ 0 → Findable p (suc n) → zeta p (suc n) ≡ z → radicand p (suc n) z ≡ a → Listed p (suc n) t1 z a v1 b1 k1 → Listed p (suc n) t2 z a v2 b2 k2
+    → checkNumber p (suc n) t1 t2 s r ≡ 0 → (p - 1) % suc n ≡ 0 → zeta p (suc n) ≡ z → radicand p (suc n) z ≡ a → Listed p (suc n) t1 z a v1 b1 k1 → Listed p (suc n) t2 z a v2 b2 k2
     → substitute p t2 s (scale p k1 v1) ≡ scale p k2 v2 → FinderValues p (suc n) t1 t2 z a (scale p k1 v1) (scale p k2 v2) s r
 found {p} {n} {t1} {t2} {z} {a} {v1} {v2} {b1} {b2} {k1} {k2} {s} {r} accepted divides zeta-is a-is listed1 listed2 image-is =
     let models = checker-theorem p (suc n) t1 t2 s r .0 accepted .0 .models in

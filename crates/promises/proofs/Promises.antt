@@ -3,6 +3,7 @@ use Rattle.answer.proofs.LongInput as Answer
 use Rattle.card.proofs.Theorem as Card
 use Rattle.cvalue.proofs.Theorem as Values
 use Rattle.finder.proofs.Theorem as Finder
+use Rattle.finder.proofs.Rounds as Rounds
 use Rattle.finder.proofs.Triangle as Triangle
 use Rattle.held.proofs.Theorem as Held
 use Rattle.irreducible.proofs.Theorem as Irreducible
@@ -19,6 +20,7 @@ use Rattle.promises.specs.Promises.{Promises}
 use Rattle.promises.proofs.Examples as Examples
 use Rattle.promises.proofs.LedgerExamples as LedgerExamples
 use Rattle.promises.proofs.MapsExamples as MapsExamples
+use Rattle.promises.proofs.TowerExamples as TowerExamples
 use Rattle.promises.proofs.SheetExamples as SheetExamples
 
 pub promises : Promises
@@ -43,6 +45,9 @@ promises =
       scalings-are-counted = Triangle.scalings-counted;
       triangle = Triangle.triangle-theorem;
       every-scaling-accepted = Finder.every-scaling-accepted;
+      rounds-decide = Rounds.rounds-decide;
+      one-tower = Rounds.one-tower;
+      tower-examples = TowerExamples.tower-examples;
       field-exactly = Quotient.field-exactly;
       power-of-unit = Quotient.power-of-unit;
       irreducible-divisor = Quotient.irreducible-divisor;

@@ -26,7 +26,7 @@ factor-divides p d e t big words-d words-t low high product =
 
 -- the finder's number for two models, from what its conditions say
 module _ {p n : ℕ} {t1 t2 : List ℕ} (prime : badPrime p ≡ false) (degree : badDegree n ≡ false) (w1 : Words p n t1) (w2 : Words p n t2) where
-  models : Models p n t1 t2
+  pub models : Models p n t1 t2
   models =
       let (is-prime, small) = prime-given p prime in
       record { prime = is-prime; small = small; degree = degree-given n degree; modulus1 = w1; modulus2 = w2 }

@@ -8,6 +8,7 @@
 use Rattle.answer.specs.Theorem.{LongInput}
 use Rattle.card.specs.Theorem.{WrittenReadsBack, ReadIsWritten, LongestCard}
 use Rattle.cvalue.specs.Theorem.{ValuesFollow}
+use Rattle.finder.specs.Rounds.{RoundsDecide, OneTower}
 use Rattle.finder.specs.Scalings.{ScalingsAreCounted}
 use Rattle.finder.specs.Stored.{EveryScalingAccepted}
 use Rattle.finder.specs.Theorem.{Demand3Theorem}
@@ -28,6 +29,7 @@ use Rattle.promises.specs.Examples.{Examples}
 use Rattle.promises.specs.LedgerExamples.{LedgerExamples}
 use Rattle.promises.specs.MapsExamples.{MapsExamples}
 use Rattle.promises.specs.SheetExamples.{SheetExamples}
+use Rattle.promises.specs.TowerExamples.{TowerExamples}
 
 pub record Promises : Type 0 where
   -- Demand 1 (session/specs/Theorem.antt, held/specs/Theorem.antt): every list of calls makes of a new session one that is new, loaded or paired with an accepted pair,
@@ -59,6 +61,11 @@ pub record Promises : Type 0 where
   pub scalings-are-counted : ScalingsAreCounted
   pub triangle : TriangleTheorem
   pub every-scaling-accepted : EveryScalingAccepted
+  -- Degrees that are powers of p, request S-7 (finder/specs/Rounds.antt): demand 3 and the triangle above hold for them too; besides, a modulus of degree n = p^k has no proper divisor exactly
+  -- when k rounds of Algorithm 4.1 have their solutions, and these are determined; two examples computed (specs/TowerExamples.antt)
+  pub rounds-decide : RoundsDecide
+  pub one-tower : OneTower
+  pub tower-examples : TowerExamples
   -- what makes it so (quotient/specs/Theorem.antt): fields of residues
   pub field-exactly : FieldExactly
   pub power-of-unit : PowerOfUnit
