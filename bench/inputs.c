@@ -46,7 +46,8 @@ static void complete(inputs *in, job *j) {
     }
 }
 
-/* Sixteen different pairs of moduli, or all that there are: a thousand draws meet each of the nine pairs of p = 3, n = 2. */
+/* Sixteen different pairs of moduli, or all that there are: a thousand draws meet each of the nine pairs of p = 3, n = 2 and of p = 2, n = 4, and
+ * the one pair of p = 2, n = 2. */
 void choose(const row *which, inputs *in) {
     memset(in, 0, sizeof *in);
     in->p = which->p, in->n = which->n, in->words = which->single ? in->n : LARGEST_TABLE / in->n * in->n;

@@ -10,7 +10,7 @@
  *    2  n is not 1 to 16
  *    3  a list of coefficients, read or written, or the output list of a card, sheet or report has the wrong length
  *    4  a coefficient is p or more
- *    5  n does not divide p - 1
+ *    5  n neither divides p - 1 nor is p^k with k >= 1
  *    6  T1, or T where a call has one modulus, has a monic divisor of degree 1 to n - 1
  *    7  T2 has one
  *    8  one of the congruences T1(S) = 0 mod T2, T2(R) = 0 mod T1, S(R) = X mod T1, R(S) = X mod T2 fails
@@ -69,11 +69,14 @@ uint32_t yokebean_sheet(uint32_t p, uint32_t n, const uint16_t *t1, size_t t1_le
                         const uint16_t *s, size_t s_len, const uint16_t *r, size_t r_len, uint8_t *out, size_t out_len);
 size_t yokebean_sheet_length(uint32_t n);
 
-/* The finder: writes the pair of Allombert's Algorithm 2.1 into s and r, two lists of n words. zeta is the smallest number from 1 to p - 1 of order n
- * modulo p, and a the smallest with a^((p-1)/n) = zeta modulo p; in each model alpha satisfies alpha^p = zeta*alpha and alpha^n = a, and of the n
- * residues that do, it is the one whose first coefficient that is not zero is smallest; u -> u(S) takes the alpha of T1 to that of T2, and u -> u(R)
- * takes it back. Found maps compose: for three models A, B, C, the maps found for A and B and then those for B and C are the maps found for A and C,
- * forward and back; with the models exchanged, the found pair is exchanged. Pairs found by earlier versions stay accepted. 1 to 7. */
+/* The finder, where n divides p - 1 or is p^k with k >= 1: writes the pair of Allombert's Algorithm 2.1 or 4.1 into s and r, two lists of n words.
+ * Each model has an alpha; u -> u(S) takes the alpha of T1 to that of T2, and u -> u(R) takes it back.
+ * Where n divides p - 1, zeta is the smallest number from 1 to p - 1 of order n modulo p, and a the smallest with a^((p-1)/n) = zeta modulo p; alpha
+ * satisfies alpha^p = zeta*alpha and alpha^n = a, and of the n residues that do, it is the one whose first coefficient that is not zero is smallest.
+ * Where n = p^k, a and alpha are 1 at first; then k times a becomes a*alpha^(p-1), and alpha the one residue with alpha^p = alpha + a and constant
+ * coefficient 0.
+ * Found maps compose: for three models A, B, C, the maps found for A and B and then those for B and C are the maps found for A and C, forward and
+ * back; with the models exchanged, the found pair is exchanged. Pairs found by earlier versions stay accepted. 1 to 7. */
 uint32_t yokebean_find(uint32_t p, uint32_t n, const uint16_t *t1, size_t t1_len, const uint16_t *t2, size_t t2_len,
                        uint16_t *s, size_t s_len, uint16_t *r, size_t r_len);
 

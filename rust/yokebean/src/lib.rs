@@ -187,9 +187,13 @@ pub fn sheet(size: Size, t1: &[u16], t2: &[u16], s: &[u16], r: &[u16], out: &mut
     answer(number, ())
 }
 
-/// The finder: writes the pair of Allombert's Algorithm 2.1 into s and r, which have n words. ζ is the smallest number from 1 to p − 1 of order n
-/// modulo p, and a the smallest with a^((p−1)/n) = ζ; in each model α satisfies α^p = ζ·α and α^n = a, and of the n residues that do, it is the one
-/// whose first coefficient that is not zero is smallest; u ↦ u(S) takes the α of T1 to that of T2, and u ↦ u(R) takes it back. Refusals 1 to 7.
+/// The finder, where n divides p − 1 or is p^k with k ≥ 1: writes the pair of Allombert's Algorithm 2.1 or 4.1 into s and r, which have n
+/// words. Each model has an α; u ↦ u(S) takes the α of T1 to that of T2, and u ↦ u(R) takes it back. Refusals 1 to 7.
+///
+/// Where n divides p − 1, ζ is the smallest number from 1 to p − 1 of order n modulo p, and a the smallest with a^((p−1)/n) = ζ; α satisfies
+/// α^p = ζ·α and α^n = a, and of the n residues that do, it is the one whose first coefficient that is not zero is smallest.
+///
+/// Where n = p^k, a and α are 1 at first; then k times a becomes a·α^(p−1), and α the one residue with α^p = α + a and constant coefficient 0.
 ///
 /// Found maps compose: for three models A, B, C, the maps found for A and B and then those for B and C are the maps found for A and C, forward and
 /// back; with the models exchanged, the found pair is exchanged. Pairs found by earlier versions stay accepted.
@@ -205,6 +209,11 @@ pub fn sheet(size: Size, t1: &[u16], t2: &[u16], s: &[u16], r: &[u16], out: &mut
 /// assert_eq!((s, r), ([0, 0, 3], [0, 0, 2]));
 /// // found by an earlier version
 /// check(size, &t1, &t2, &[0, 0, 1], &[0, 0, 5])?;
+///
+/// // X⁴ + X + 1 and X⁴ + X³ + 1 modulo 2: the degree is a power of p
+/// let (mut s, mut r) = ([0; 4], [0; 4]);
+/// find(Size { p: 2, n: 4 }, &[1, 1, 0, 0], &[1, 0, 0, 1], &mut s, &mut r)?;
+/// assert_eq!((s, r), ([0, 0, 1, 1], [1, 0, 0, 1]));
 /// # Ok::<(), yokebean::Refusal>(())
 /// ```
 pub fn find(size: Size, t1: &[u16], t2: &[u16], s: &mut [u16], r: &mut [u16]) -> Result<(), Refusal> {

@@ -7,6 +7,7 @@ mod known;
 pub mod maps;
 pub mod moduli;
 pub mod pairs;
+pub mod powers;
 pub mod program;
 pub mod residues;
 pub mod sessions;

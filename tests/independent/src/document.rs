@@ -1,7 +1,8 @@
 //! Document 01, and of document 02 the requests that have landed, in plain Rust: what the calls must answer, written from the documents and by other
 //! methods than the proved code's. Polynomials are multiplied out and divided with remainder; divisors are found by trial division, or by greatest
-//! common divisors where there are too many to try; the finder's values come from sums over conjugates (Lagrange resolvents), without solving linear
-//! systems; all maps of a pair are found by trying every residue, or are powers of S, sorted; cards are strings of bits.
+//! common divisors where there are too many to try; the finder's values come from sums over conjugates (Lagrange resolvents, Hilbert's Theorem 90
+//! for sums), without solving linear systems; all maps of a pair are found by trying every residue, or are powers of S, sorted; cards are strings of
+//! bits.
 
 pub mod card;
 pub mod divisor;
@@ -13,6 +14,7 @@ pub mod model;
 pub mod polynomial;
 pub mod session;
 pub mod sheet;
+pub mod tower;
 
 use divisor::has_divisor;
 use model::Model;
@@ -90,7 +92,7 @@ pub fn irreducible(p: u32, n: u32, t: &[u16]) -> u32 {
 
 /// Refusals 5, 6 and 7, or 0.
 pub fn finder_number(p: u32, n: u32, t1: &[u16], t2: &[u16]) -> u32 {
-    first(&[&|| if (p - 1) % n == 0 { 0 } else { 5 }, &|| field_number(p, t1, t2)])
+    first(&[&|| if finder::method(p, n).is_some() { 0 } else { 5 }, &|| field_number(p, t1, t2)])
 }
 
 pub fn find(p: u32, n: u32, t1: &[u16], t2: &[u16], s: &[u16], r: &[u16]) -> (u32, Vec<u16>, Vec<u16>) {

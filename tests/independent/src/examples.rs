@@ -1,11 +1,47 @@
-//! Examples A to J of document 01, D as request S-6 and F as request S-3 has it, and the report, the sheet and the maps of A, on the independent
-//! implementation itself.
+//! Examples A to J of document 01, D as request S-6 and F as request S-3 has it, the report, the sheet and the maps of A, and degrees that are powers
+//! of p, on the independent implementation itself.
 
-use crate::document::{self, card, earlier, finder, is_prime, maps, session::Session, sheet};
+use crate::document::eigenvector::zeta_and_a;
+use crate::document::finder::{self, method, Method};
+use crate::document::{self, card, earlier, is_prime, maps, model::Model, session::Session, sheet, tower};
+
+/// A modulus for p = 2, a and α of each round, and P.
+type Tower = (&'static [u16], &'static [[&'static [u16]; 2]], &'static [u16]);
+
+/// X² + X + 1; A, X⁴ + X + 1; B, X⁴ + X³ + 1; C, X⁴ + X³ + X² + X + 1.
+const TOWERS: [Tower; 4] = [
+    (&[1, 1], &[[&[1, 0], &[0, 1]]], &[0, 1]),
+    (&[1, 1, 0, 0], &[[&[1, 0, 0, 0], &[0, 1, 1, 0]], [&[0, 1, 1, 0], &[0, 1, 0, 0]]], &[0, 1, 0, 0]),
+    (&[1, 0, 0, 1], &[[&[1, 0, 0, 0], &[0, 1, 0, 1]], [&[0, 1, 0, 1], &[0, 0, 1, 1]]], &[1, 0, 0, 1]),
+    (&[1, 1, 1, 1], &[[&[1, 0, 0, 0], &[0, 0, 1, 1]], [&[0, 0, 1, 1], &[0, 1, 0, 1]]], &[0, 0, 0, 1]),
+];
+
+/// Degrees that are powers of p, as docs/READING.md works them out by hand.
+fn towers_hold() {
+    for (t, rounds, expressed) in TOWERS {
+        let model = Model::new(2, t);
+        let listed: Vec<_> = rounds.iter().map(|[a, alpha]| (a.to_vec(), alpha.to_vec())).collect();
+        assert_eq!(tower::rounds(&model, tower::solution), listed);
+        assert_eq!(tower::express(&model, &listed.last().unwrap().1), expressed);
+    }
+    let [a, b, c] = [TOWERS[1].0, TOWERS[2].0, TOWERS[3].0];
+    let found = |t1: &[u16], t2: &[u16]| document::find(2, t1.len() as u32, t1, t2, &vec![9; t1.len()], &vec![9; t1.len()]);
+    assert_eq!(found(&[1, 1], &[1, 1]), (0, vec![0, 1], vec![0, 1]));
+    assert_eq!(found(a, b), (0, vec![0, 0, 1, 1], vec![1, 0, 0, 1]));
+    assert_eq!(found(b, c), (0, vec![1, 1, 0, 0], vec![1, 1, 0, 0]));
+    assert_eq!(found(a, c), (0, vec![0, 1, 0, 1], vec![0, 0, 0, 1]));
+    assert_eq!([found(&[0, 0], &[1, 1]).0, found(&[1, 1], &[0, 0]).0, found(&[1, 1, 0], &[1, 1, 0]).0], [6, 7, 5]);
+    assert_eq!(
+        [method(2, 1), method(3, 2), method(2, 2), method(3, 9)],
+        [Method::Eigenvector, Method::Eigenvector, Method::Tower, Method::Tower].map(Some)
+    );
+    assert_eq!([(2, 3), (2, 6), (2, 12), (3, 6), (3, 12), (5, 10)].map(|(p, n)| method(p, n)), [None; 6]);
+}
 
 pub fn hold() {
+    towers_hold();
     let pair = finder::pair(3, &[1, 0], &[2, 1]);
-    assert_eq!((pair.zeta, pair.a, &pair.alpha1[..], &pair.alpha2[..]), (2, 2, &[0, 1][..], &[1, 2][..]));
+    assert_eq!((zeta_and_a(3, 2), &pair.alpha1[..], &pair.alpha2[..]), ((2, 2), &[0, 1][..], &[1, 2][..]));
     assert_eq!((&pair.s[..], &pair.r[..]), (&[1, 2][..], &[1, 2][..]));
     assert_eq!(document::check(3, 2, &[1, 0], &[2, 1], &[2, 1], &[1, 1]), 0);
     let session = Session::new().load(3, 2, &[1, 0], &[2, 1]).unwrap().find().unwrap();
@@ -14,14 +50,14 @@ pub fn hold() {
     assert_eq!((&image[..], &again[..]), (&[2, 2][..], &[1, 1][..]));
     assert_eq!(session.report(&[0; 12]), (0, b"F 1\nB 1\n1\n1\n".to_vec()));
     let pair = finder::pair(7, &[5, 0, 0], &[4, 0, 0]);
-    assert_eq!((pair.zeta, pair.a, &pair.alpha1[..], &pair.alpha2[..]), (2, 3, &[0, 0, 3][..], &[0, 1, 0][..]));
+    assert_eq!((zeta_and_a(7, 3), &pair.alpha1[..], &pair.alpha2[..]), ((2, 3), &[0, 0, 3][..], &[0, 1, 0][..]));
     assert_eq!((&pair.s[..], &pair.r[..]), (&[0, 0, 2][..], &[0, 0, 3][..]));
     // found before request S-6, and still accepted
     assert_eq!(earlier::pair(7, &[5, 0, 0], &[4, 0, 0]), (vec![0, 0, 1], vec![0, 0, 5]));
     assert_eq!(document::check(7, 3, &[5, 0, 0], &[4, 0, 0], &[0, 0, 1], &[0, 0, 5]), 0);
     assert_eq!(card::fieldcard(&card::card(7, 3, 2, &[5, 0, 0, 4, 0, 0, 0, 0, 1, 0, 0, 5])), "VALID\n");
     let pair = finder::pair(5, &[1], &[3]);
-    assert_eq!((pair.zeta, pair.a, &pair.alpha1[..], &pair.alpha2[..]), (1, 1, &[1][..], &[1][..]));
+    assert_eq!((zeta_and_a(5, 1), &pair.alpha1[..], &pair.alpha2[..]), ((1, 1), &[1][..], &[1][..]));
     assert_eq!(document::find(2, 1, &[1], &[0], &[0], &[0]), (0, vec![1], vec![0]));
     assert_eq!(document::check(3, 2, &[0, 0], &[0, 0], &[0, 1], &[0, 1]), 6);
     assert_eq!(Session::new().load(3, 2, &[0, 0], &[0, 0]).unwrap().propose(&[0, 1], &[0, 1]), Err(6));

@@ -18,6 +18,7 @@ fn main() {
     compare::sheets::run(1_000 * factor, &mut tally);
     compare::cards::run(30_000 * factor, &mut tally);
     compare::sessions::run(60_000 * factor, &mut tally);
+    compare::powers::run(60 * factor, &mut tally);
     compare::triangles::run(factor, &mut tally);
     compare::earlier::run(factor, &mut tally);
     compare::program::run(200 * factor, &mut tally);

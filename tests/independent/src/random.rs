@@ -32,7 +32,7 @@ impl Random {
     /// A prime, small, large or between.
     pub fn prime(&mut self) -> u32 {
         if self.once_in(2) {
-            return self.one_of(&[2, 3, 5, 7, 13, 17, 251, 257, 1009, 32_749, 65_519, 65_521]);
+            return self.one_of(&[2, 3, 5, 7, 11, 13, 17, 251, 257, 1009, 32_749, 65_519, 65_521]);
         }
         loop {
             let p = self.below(65_536) as u32;

@@ -2,6 +2,7 @@
 //! linear change of the variable; pairs whose congruences fail come from these by one changed word, from maps that preserve sums only, and from two
 //! isomorphisms that do not undo each other.
 
+use super::sizes;
 use crate::document::{self, model::Model, polynomial};
 use crate::random::Random;
 
@@ -102,8 +103,7 @@ pub fn draw(random: &mut Random) -> Case {
         let t1 = random.modulus(p, n, divisors);
         return changed_variable(random, p, n, t1);
     }
-    let divisors: Vec<u32> = (1..=16).filter(|n| (p - 1) % n == 0).collect();
-    let n = divisors[random.below(divisors.len() as u64) as usize];
+    let n = sizes::degree(random, p);
     let (t1, t2) = (random.modulus(p, n, false), random.modulus(p, n, false));
     found(p, n, t1, t2)
 }

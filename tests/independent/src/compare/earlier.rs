@@ -4,12 +4,11 @@
 use super::case::Case;
 use super::pairs::compare_check;
 use super::sessions::Calls;
-use super::sizes::sizes;
-use super::Tally;
-use crate::document::eigenvector::eigenvector;
+use super::{sizes, Tally};
+use crate::document::earlier;
+use crate::document::eigenvector::{eigenvector, has_order, zeta};
 use crate::document::model::{Model, Residue};
 use crate::document::polynomial::power;
-use crate::document::{earlier, finder};
 use crate::random::Random;
 
 fn accept(case: &Case, tally: &mut Tally) {
@@ -22,10 +21,10 @@ fn accept(case: &Case, tally: &mut Tally) {
 
 /// Any number of order n: a power of one of them.
 fn any_zeta(random: &mut Random, p: u64, n: u64) -> u64 {
-    let smallest = finder::zeta(p, n);
+    let smallest = zeta(p, n);
     loop {
         let zeta = power(p, smallest, random.below(n));
-        if finder::has_order(p, n, zeta) {
+        if has_order(p, n, zeta) {
             return zeta;
         }
     }
@@ -44,7 +43,7 @@ fn any_pairs(random: &mut Random, p: u32, t1: &[u16], t2: &[u16]) -> Vec<(Residu
 pub fn run(rounds: u64, tally: &mut Tally) {
     let random = &mut Random::new(0x1656_67b1_9e37_79f9);
     for _ in 0..rounds {
-        for (p, n) in sizes(random) {
+        for (p, n) in sizes::divisors(random) {
             let [t1, t2] = [0; 2].map(|_| random.modulus(p, n, false));
             let mut pairs = any_pairs(random, p, &t1, &t2);
             pairs.push(earlier::pair(p, &t1, &t2));

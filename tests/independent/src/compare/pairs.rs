@@ -16,8 +16,8 @@ pub fn compare_check(case: &Case, tally: &mut Tally) -> u32 {
     want
 }
 
-/// What the two lists hold after the call.
-pub fn compare_find(p: u32, n: u32, t1: &[u16], t2: &[u16], lent: [Vec<u16>; 2], tally: &mut Tally) -> (Vec<u16>, Vec<u16>) {
+/// The number on which both sides agree, and what the two lists hold after the call.
+pub fn compare_find(p: u32, n: u32, t1: &[u16], t2: &[u16], lent: [Vec<u16>; 2], tally: &mut Tally) -> (u32, Vec<u16>, Vec<u16>) {
     let want = document::find(p, n, t1, t2, &lent[0], &lent[1]);
     let [mut s, mut r] = lent;
     let number = library::number(find(Size { p, n }, t1, t2, &mut s, &mut r));
@@ -26,7 +26,7 @@ pub fn compare_find(p: u32, n: u32, t1: &[u16], t2: &[u16], lent: [Vec<u16>; 2],
     }
     let got = (number, s, r);
     tally.compare("find", want.0, &(p, n, t1, t2), &got, &want);
-    (got.1, got.2)
+    got
 }
 
 pub fn run(rounds: u64, tally: &mut Tally) {

@@ -1,7 +1,8 @@
-//! The program `fieldcard`, run on cards of both kinds, damaged ones, pairs over moduli with divisors, refusals of each number that it can give, the
-//! longest card, no input, a closed input, input in parts and input that is too long.
+//! The program `fieldcard`, run on cards of both kinds, damaged ones, pairs over moduli with divisors, jobs in degrees that are powers of p, refusals
+//! of each number that it can give, the longest card, no input, a closed input, input in parts and input that is too long.
 
 use super::known::{draw_all, Known};
+use super::sizes::{self, POWERS};
 use super::Tally;
 use crate::document::card;
 use crate::random::Random;
@@ -33,11 +34,13 @@ fn printed_without_input() -> String {
     String::from_utf8(shell.stdout).unwrap()
 }
 
-fn compare(input: &[u8], tally: &mut Tally) {
+/// The number on which both sides agree.
+fn compare(input: &[u8], tally: &mut Tally) -> u32 {
     let want = card::fieldcard(input);
     let number = want.strip_prefix("REFUSED ").map_or(0, |word| word.trim().parse().unwrap());
     let call = if want == "RING\n" { "fieldcard_ring" } else { "fieldcard" };
     tally.compare(call, number, &input, &printed(&[input]), &want);
+    number
 }
 
 fn compare_known(known: &Known, tally: &mut Tally) {
@@ -47,14 +50,34 @@ fn compare_known(known: &Known, tally: &mut Tally) {
     compare(&bytes, tally);
 }
 
+/// The pair card in an answer to a job, if it has one.
+fn pair_card(answer: &str) -> Option<Vec<u8>> {
+    let digits = answer.trim().strip_prefix("PAIR ")?;
+    Some((0..digits.len() / 2).map(|k| u8::from_str_radix(&digits[2 * k..2 * k + 2], 16).unwrap()).collect())
+}
+
+/// Jobs and the pair found in a degree that is a power of p, and jobs in degrees that the finder does not take.
+fn compare_powers(random: &mut Random, tally: &mut Tally) {
+    for (p, n) in POWERS {
+        let [field, other] = [0; 2].map(|_| random.modulus(p, n, false));
+        let ring = random.modulus(p, n, true);
+        let job = |t1: &[u16], t2: &[u16]| card::card(p, n, 1, &[t1, t2].concat());
+        let jobs = [job(&field, &other), job(&ring, &field), job(&field, &ring)];
+        assert_eq!(jobs.clone().map(|job| compare(&job, tally)), [0, 6, 7]);
+        assert_eq!(compare(&pair_card(&card::fieldcard(&jobs[0])).unwrap(), tally), 0);
+    }
+    for (p, n) in [(2, 3), (2, 6), (2, 12), (3, 6), (3, 12), (5, 10), (7, 14), (11, 4)] {
+        let t = random.modulus(p, n, false);
+        assert_eq!(compare(&card::card(p, n, 1, &[&t[..], &t].concat()), tally), 5);
+    }
+}
+
 fn random_card(random: &mut Random) -> Vec<u8> {
     let p = random.prime();
-    let divisors: Vec<u32> = (1..=16).filter(|n| (p - 1) % n == 0).collect();
-    let n = if random.once_in(5) { 1 + random.below(16) as u32 } else { divisors[random.below(divisors.len() as u64) as usize] };
+    let n = if random.once_in(5) { 1 + random.below(16) as u32 } else { sizes::degree(random, p) };
     let job = card::card(p, n, 1, &random.words(p, 2 * n, false));
-    let answer = card::fieldcard(&job);
-    let mut bytes = match answer.trim().strip_prefix("PAIR ") {
-        Some(pair) if random.once_in(2) => (0..pair.len() / 2).map(|k| u8::from_str_radix(&pair[2 * k..2 * k + 2], 16).unwrap()).collect(),
+    let mut bytes = match pair_card(&card::fieldcard(&job)) {
+        Some(pair) if random.once_in(2) => pair,
         _ => job,
     };
     match random.below(6) {
@@ -94,6 +117,7 @@ pub fn run(rounds: u64, tally: &mut Tally) {
     for known in draw_all(random) {
         compare_known(&known, tally);
     }
+    compare_powers(random, tally);
     for _ in 0..rounds {
         let bytes = random_card(random);
         compare(&bytes, tally);

@@ -4,7 +4,7 @@
 mod proposals;
 mod value;
 
-use super::Tally;
+use super::{sizes, Tally};
 use crate::document::session::{Held, Session as Document};
 use crate::document::{self, finder, is_prime};
 use crate::library::{self, Record, Session as Value, Step};
@@ -31,8 +31,7 @@ fn table(random: &mut Random, p: u32, n: u32) -> Vec<u16> {
 
 fn models(random: &mut Random) -> (u32, u32, Vec<u16>, Vec<u16>) {
     let p = random.prime();
-    let divisors: Vec<u32> = (1..=16).filter(|n| (p - 1) % n == 0).collect();
-    let n = if random.once_in(4) { 1 + random.below(16) as u32 } else { divisors[random.below(divisors.len() as u64) as usize] };
+    let n = if random.once_in(4) { 1 + random.below(16) as u32 } else { sizes::degree(random, p) };
     let modulus = |random: &mut Random| {
         let divisors = n > 1 && random.once_in(12);
         random.modulus(p, n, divisors)
@@ -86,8 +85,8 @@ impl Calls {
         self.step("session_propose", want, library::propose(self.current, s, r), tally)
     }
 
-    pub fn find(&mut self, tally: &mut Tally) {
-        self.step("session_find", counts_as(&self.current).find(), library::find(self.current), tally);
+    pub fn find(&mut self, tally: &mut Tally) -> u32 {
+        self.step("session_find", counts_as(&self.current).find(), library::find(self.current), tally)
     }
 
     fn clear(&mut self, tally: &mut Tally) {
@@ -157,7 +156,9 @@ impl Calls {
                 let r = if random.once_in(4) { words(random) } else { r };
                 self.propose(&s, &r, tally);
             }
-            3 => self.find(tally),
+            3 => {
+                self.find(tally);
+            }
             4 if random.once_in(3) => self.clear(tally),
             5 if random.once_in(2) => {
                 self.report(tally);

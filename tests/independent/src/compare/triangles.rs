@@ -3,7 +3,7 @@
 
 use super::pairs::compare_find;
 use super::sessions::Calls;
-use super::sizes::sizes;
+use super::sizes::{divisors, POWERS};
 use super::Tally;
 use crate::document::model::{Model, Residue};
 use crate::random::Random;
@@ -17,6 +17,11 @@ struct Found {
     sessions: [[Calls; 3]; 3],
 }
 
+fn pair(p: u32, n: u32, t1: &[u16], t2: &[u16], tally: &mut Tally) -> (Residue, Residue) {
+    let (_, s, r) = compare_find(p, n, t1, t2, [0; 2].map(|_| vec![0; n as usize]), tally);
+    (s, r)
+}
+
 fn session(p: u32, n: u32, t1: &[u16], t2: &[u16], tally: &mut Tally) -> Calls {
     let mut calls = Calls::new(tally);
     calls.load(p, n, t1, t2, tally);
@@ -25,10 +30,8 @@ fn session(p: u32, n: u32, t1: &[u16], t2: &[u16], tally: &mut Tally) -> Calls {
 }
 
 impl Found {
-    fn new(random: &mut Random, p: u32, n: u32, tally: &mut Tally) -> Self {
-        let moduli = [0; 3].map(|_| random.modulus(p, n, false));
-        let lent = || [0; 2].map(|_| vec![0; n as usize]);
-        let pairs = [0, 1, 2].map(|a| [0, 1, 2].map(|b| compare_find(p, n, &moduli[a], &moduli[b], lent(), tally)));
+    fn new(p: u32, n: u32, moduli: [Vec<u16>; 3], tally: &mut Tally) -> Self {
+        let pairs = [0, 1, 2].map(|a| [0, 1, 2].map(|b| pair(p, n, &moduli[a], &moduli[b], tally)));
         let sessions = [0, 1, 2].map(|a| [0, 1, 2].map(|b| session(p, n, &moduli[a], &moduli[b], tally)));
         Found { p, n, moduli, pairs, sessions }
     }
@@ -62,19 +65,25 @@ impl Found {
     }
 }
 
+fn compare(random: &mut Random, p: u32, n: u32, moduli: [Vec<u16>; 3], tally: &mut Tally) {
+    let mut found = Found::new(p, n, moduli, tally);
+    for code in 0..27 {
+        let [a, b, c] = [code / 9, code / 3 % 3, code % 3];
+        found.compare_pairs([a, b, c], tally);
+        found.compare_tables(random, [a, b, c], tally);
+        if c == 0 {
+            found.compare_exchanged([a, b], tally);
+        }
+    }
+}
+
 pub fn run(rounds: u64, tally: &mut Tally) {
     let random = &mut Random::new(0xc2b2_ae3d_27d4_eb4f);
+    compare(random, 2, 4, [vec![1, 1, 0, 0], vec![1, 0, 0, 1], vec![1, 1, 1, 1]], tally); // all that there are
     for _ in 0..rounds {
-        for (p, n) in sizes(random) {
-            let mut found = Found::new(random, p, n, tally);
-            for code in 0..27 {
-                let [a, b, c] = [code / 9, code / 3 % 3, code % 3];
-                found.compare_pairs([a, b, c], tally);
-                found.compare_tables(random, [a, b, c], tally);
-                if c == 0 {
-                    found.compare_exchanged([a, b], tally);
-                }
-            }
+        for (p, n) in divisors(random).into_iter().chain(POWERS) {
+            let moduli = [0; 3].map(|_| random.modulus(p, n, false));
+            compare(random, p, n, moduli, tally);
         }
     }
 }

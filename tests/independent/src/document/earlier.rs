@@ -1,8 +1,7 @@
 //! Pairs of Algorithm 2.1 with any choices: ζ of order n, eigenvectors α1 and α2 for it, and c with c^n·α2^n = α1^n. All of them are accepted, those
 //! that were found before request S-6 among them.
 
-use super::eigenvector::{eigenvector, express, nth_power};
-use super::finder;
+use super::eigenvector::{eigenvector, express, nth_power, zeta};
 use super::model::{Model, Residue};
 use super::polynomial::power;
 
@@ -19,6 +18,6 @@ pub fn pairs(k1: &Model, k2: &Model, zeta: u64, alpha1: &[u16], alpha2: &[u16]) 
 /// The pair that was found before request S-6: the smallest ζ and c, and eigenvectors whose first coefficient that is not zero is 1.
 pub fn pair(p: u32, t1: &[u16], t2: &[u16]) -> (Residue, Residue) {
     let (k1, k2) = (Model::new(p, t1), Model::new(p, t2));
-    let zeta = finder::zeta(p.into(), t1.len() as u64);
+    let zeta = zeta(p.into(), t1.len() as u64);
     pairs(&k1, &k2, zeta, &eigenvector(&k1, zeta), &eigenvector(&k2, zeta)).swap_remove(0)
 }

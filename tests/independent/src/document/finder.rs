@@ -1,55 +1,49 @@
-//! The finder's values for two models without divisors, as request S-6 has them: ζ and a depend on p and n only, and α on its own model, so that
-//! found maps compose.
+//! The finder's values for two models without divisors. Each model has an α, found by one of two methods without looking at the other model, and the
+//! polynomial P of degree below n with P(α) = X. The found maps take the one α to the other, so that they compose.
 
-use super::eigenvector::{eigenvector, express, nth_power};
 use super::model::{Model, Residue};
-use super::polynomial::power;
+use super::{eigenvector, tower};
 
 pub struct Pair {
-    pub zeta: u64,
-    pub a: u64,
     pub alpha1: Residue,
     pub alpha2: Residue,
     pub s: Residue,
     pub r: Residue,
 }
 
-/// Whether z^n = 1 and no lower power is 1.
-pub fn has_order(p: u64, n: u64, z: u64) -> bool {
-    let (mut k, mut value) = (1, z);
-    while value != 1 && k <= n {
-        value = value * z % p;
-        k += 1;
+/// How α is found.
+#[derive(Clone, Copy, Debug, PartialEq)]
+pub enum Method {
+    /// n divides p − 1.
+    Eigenvector,
+    /// n = p^k with k ≥ 1.
+    Tower,
+}
+
+/// The method of a size, if it has one. "A degree of 1 keeps the first method."
+pub fn method(p: u32, n: u32) -> Option<Method> {
+    let is_power = || (1..=4).any(|k| u64::from(p).pow(k) == u64::from(n));
+    if (p - 1) % n == 0 {
+        Some(Method::Eigenvector)
+    } else if is_power() {
+        Some(Method::Tower)
+    } else {
+        None
     }
-    k == n
 }
 
-/// The smallest number from 1 to p − 1 of order n.
-pub fn zeta(p: u64, n: u64) -> u64 {
-    (1..p).find(|&z| has_order(p, n, z)).unwrap()
-}
-
-/// The smallest a from 1 to p − 1 with a^((p−1)/n) = ζ.
-fn common_power(p: u64, n: u64, zeta: u64) -> u64 {
-    (1..p).find(|&a| power(p, a, (p - 1) / n) == zeta).unwrap()
-}
-
-/// The eigenvector with n-th power a and the smallest first coefficient, which is tried from 1 up.
-fn alpha(model: &Model, zeta: u64, a: u64) -> Residue {
-    let (vector, n) = (eigenvector(model, zeta), model.modulus.len() as u64);
-    let b = nth_power(model, &vector);
-    let first = (1..model.p).find(|&first| power(model.p, first, n) * b % model.p == a).unwrap();
-    model.scaled(first, &vector)
+/// α of a model, and P.
+fn generator(model: &Model) -> (Residue, Residue) {
+    match method(model.p as u32, model.modulus.len() as u32).unwrap() {
+        Method::Eigenvector => eigenvector::generator(model),
+        Method::Tower => tower::generator(model),
+    }
 }
 
 pub fn pair(p: u32, t1: &[u16], t2: &[u16]) -> Pair {
     let (k1, k2) = (Model::new(p, t1), Model::new(p, t2));
-    let (p, n) = (u64::from(p), t1.len() as u64);
-    let zeta = zeta(p, n);
-    let a = common_power(p, n, zeta);
-    let (alpha1, alpha2) = (alpha(&k1, zeta, a), alpha(&k2, zeta, a));
-    let s = k2.substitute(&alpha2, &express(&k1, zeta, &alpha1));
+    let [(alpha1, p1), (alpha2, p2)] = [&k1, &k2].map(generator);
     // the inverse map sends α2 to α1
-    let r = k1.substitute(&alpha1, &express(&k2, zeta, &alpha2));
-    Pair { zeta, a, alpha1, alpha2, s, r }
+    let (s, r) = (k2.substitute(&alpha2, &p1), k1.substitute(&alpha1, &p2));
+    Pair { alpha1, alpha2, s, r }
 }

@@ -74,6 +74,12 @@ impl<'a> Model<'a> {
         list
     }
 
+    /// The word of a residue that is a constant.
+    pub fn coerced(&self, u: &[u16]) -> u64 {
+        assert!(u[1..].iter().all(|&word| word == 0));
+        u64::from(u[0])
+    }
+
     /// f(S) for a polynomial f of any degree: the sum of its terms.
     pub fn substitute(&self, s: &[u16], f: &[u16]) -> Residue {
         let mut power = self.constant(1);
