@@ -74,7 +74,7 @@ pub extern "C" fn yokebean_sheet_length(n: u32) -> usize
     sheet::print::sheet_length(n)
 }
 
-// s and r := the pair of Algorithm 2.1: 0, or 1 to 7.
+// s and r := the pair of Algorithm 2.1 or 4.1: 0, or 1 to 7.
 #[no_mangle]
 pub extern "C" fn yokebean_find(
     p: u32,

@@ -57,7 +57,7 @@ fn write_pair(p: u32, n: u32, t1: &[Word], t2: &[Word], s: &mut [Word], r: &mut 
     found.number
 }
 
-// The pair of Algorithm 2.1 for the models p, n, T1 and p, n, T2, with the choices of the documents: S into s and R into r.
+// The pair of Algorithm 2.1, or of Algorithm 4.1 where n is a power of p, for the models p, n, T1 and p, n, T2, with the choices of the documents: S into s and R into r.
 pub fn find(p: u32, n: u32, t1: &[Word], t2: &[Word], s: &mut [Word], r: &mut [Word]) -> u32
     ensures { λ number. ⌜ number ≡ findNumber p n (now (t1 .entry)) (now (t2 .entry)) (now (s .entry)) (now (r .entry)) ⌝ }
     ensures { λ _. ⌜ now (s .exit) ≡ findOutputS p n (now (t1 .entry)) (now (t2 .entry)) (now (s .entry)) (now (r .entry)) ⌝ }

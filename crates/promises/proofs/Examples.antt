@@ -1,5 +1,5 @@
 -- The proof of examples A to I. The values of A, D and E pass their tests, so they are the finder's; F and G are refused by a factorisation, G's 7 also
--- because A's answer 0 says that 6 does not apply to T1; H is the refusal for an n that does not divide p − 1. Each `refl` computes one test,
+-- because A's answer 0 says that 6 does not apply to T1; H is the refusal for an n that neither divides p − 1 nor is a power of p. Each `refl` computes one test,
 -- conversion, card or line, with the test for divisors; alpha and express, which go through all residues, are not computed.
 use mathlib.Core.Path.{refl}
 use mathlib.Core.List.{[], _∷_}

@@ -35,7 +35,7 @@ module _ {p n : ℕ} {t1 t2 : List ℕ} (prime : badPrime p ≡ false) (degree :
     after-four : findNumber p n t1 t2 lentS lentR ≡ refuseFind p n t1 t2
     after-four = find-models p n t1 t2 models lentS lentR lengthS lengthR
 
-    -- n does not divide p − 1
+    -- n neither divides p − 1 nor is a power of p
     pub indivisible-refused : findable p n ≡ false → findNumber p n t1 t2 lentS lentR ≡ 5
     indivisible-refused not-divides = after-four ∙ rw not-divides
 
