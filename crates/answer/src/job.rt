@@ -12,8 +12,8 @@ ghost use Rattle.text.specs.Text.{Appended, Begins};
 use array::Word;
 use card::layout::bit_count;
 use card::layout::width;
-use card::writer::write;
 use finder::find::find;
+use writer::writer::write;
 
 // The words of xs from the place `at` on: the place behind them.
 fn put_words(words: &mut [Word], at: usize, xs: &[Word]) -> usize

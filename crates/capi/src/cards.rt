@@ -42,5 +42,5 @@ pub extern "C" fn yokebean_card_write(
     ensures { λ k. ⌜ k ≡ writeNumber p n kind (now (words .entry)) (now (bytes .entry)) ⌝ }
     ensures { λ k. ⌜ now (bytes .exit) ≡ writeOutput p n kind (now (words .entry)) (now (bytes .entry)) ⌝ }
 {
-    card::writer::write(p, n, kind, words, bytes)
+    writer::writer::write(p, n, kind, words, bytes)
 }

@@ -1,8 +1,8 @@
 -- `writer::fault`: one law for each return.
 use borrow.Author.Needs.{needs}
-use Rattle.card.proofs.writer.WriteFaults.{prime-most, degree-most, write-prime, write-degree, write-kind, write-count, write-size, write-word, write-none}
-use Rattle.card.proofs.writer.fault.Statement.{statement}
-use Rattle.card.proofs.writer.fault.Tie as tie
+use Rattle.writer.proofs.writer.WriteFaults.{prime-most, degree-most, write-prime, write-degree, write-kind, write-count, write-size, write-word, write-none}
+use Rattle.writer.proofs.writer.fault.Statement.{statement}
+use Rattle.writer.proofs.writer.fault.Tie as tie
 
 is-prime-requires : tie.Need-is-prime-requires
 is-prime-requires c κs = search needs

@@ -1,8 +1,8 @@
 -- `writer::bit`: one law for each field of the card.
 use borrow.Author.Needs.{needs}
-use Rattle.card.proofs.writer.WrittenBits.{bit-prime, bit-degree, bit-kind, bit-words}
-use Rattle.card.proofs.writer.bit.Statement.{statement}
-use Rattle.card.proofs.writer.bit.Tie as tie
+use Rattle.writer.proofs.writer.WrittenBits.{bit-prime, bit-degree, bit-kind, bit-words}
+use Rattle.writer.proofs.writer.bit.Statement.{statement}
+use Rattle.writer.proofs.writer.bit.Tie as tie
 
 cast-digit : tie.Need-cast-digit
 cast-digit c = search needs

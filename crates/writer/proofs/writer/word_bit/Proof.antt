@@ -2,9 +2,9 @@
 use Prim.Native.Nat.{_/_}
 use native.Mathlib.Omega.{arith}
 use borrow.Author.Needs.{needs}
-use Rattle.card.proofs.writer.WrittenBits.{behind-fits, word-digit, word-past}
-use Rattle.card.proofs.writer.word_bit.Statement.{statement}
-use Rattle.card.proofs.writer.word_bit.Tie as tie
+use Rattle.writer.proofs.writer.WrittenBits.{behind-fits, word-digit, word-past}
+use Rattle.writer.proofs.writer.word_bit.Statement.{statement}
+use Rattle.writer.proofs.writer.word_bit.Tie as tie
 
 div-k : tie.Need-div-k
 div-k c = search needs

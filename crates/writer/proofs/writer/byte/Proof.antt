@@ -2,12 +2,12 @@
 use mathlib.Core.Path.{_≡_}
 use Prim.Native.Nat.{_-_, _*_, _≤_, _<_}
 use borrow.Author.Needs.{needs}
 use Rattle.card.specs.Bits.{unpacked}
 use Rattle.card.specs.Card.{card, fieldAt}
 use Rattle.card.proofs.Places.{field-starts, field-turn, field-turn-small, field-end-below, byte-fits}
-use Rattle.card.proofs.writer.WrittenBits.{byte-end}
-use Rattle.card.proofs.writer.byte.Statement.{statement}
-use Rattle.card.proofs.writer.byte.Tie as tie
+use Rattle.writer.proofs.writer.WrittenBits.{byte-end}
+use Rattle.writer.proofs.writer.byte.Statement.{statement}
+use Rattle.writer.proofs.writer.byte.Tie as tie
 
 abbrev Inv-loop : tie.InvT-loop
 Inv-loop p n kind w words k value₀ j₀ value j = (j ≤ 8) × (value ≡ fieldAt (unpacked (card p n kind words)) (8 * k) j) × (value < 65536)

@@ -4,12 +4,12 @@ use Prim.Native.Nat.{_-_, _≤_}
 use native.Mathlib.Omega.{arith}
 use lib.ListN.{length, length-set}
 use borrow.Author.Needs.{needs}
 use Rattle.card.specs.Card.{card}
 use Rattle.array.proofs.Painted.{painted, painted-none}
 use Rattle.array.proofs.Copying.{entry}
 use Rattle.card.proofs.Copied.{copy-next, copy-whole}
-use Rattle.card.proofs.writer.write_bytes.Statement.{statement}
-use Rattle.card.proofs.writer.write_bytes.Tie as tie
+use Rattle.writer.proofs.writer.write_bytes.Statement.{statement}
+use Rattle.writer.proofs.writer.write_bytes.Tie as tie
 
 abbrev Inv-loop : tie.InvT-loop
 Inv-loop p n kind w words out₀ k₀ out k =

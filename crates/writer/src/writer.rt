@@ -2,14 +2,14 @@
 ghost use mathlib.Core.Path.{_≡_};
 ghost use Prim.Native.Nat.{_*_, _≤_, _<_};
 ghost use lib.ListN.{length, getD};
 ghost use Rattle.card.specs.Bits.{unpacked};
 ghost use Rattle.card.specs.Card.{width as widthOf, allBits, card, writeNumber, writeOutput};
-use crate::layout::bit_count;
-use crate::layout::digit;
-use crate::layout::width;
-use crate::layout::word_count;
 use array::Word;
 use array::list::below;
+use card::layout::bit_count;
+use card::layout::digit;
+use card::layout::width;
+use card::layout::word_count;
 use modular::prime::is_prime;
 use refusal::sent::is_degree;
 
