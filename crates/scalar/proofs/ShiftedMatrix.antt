@@ -3,7 +3,7 @@ use mathlib.Core.Path.{_≡_, refl, sym, ap, ap₂, subst, _∙_}
 use mathlib.Core.List.{List, [], _∷_}
 use Prim.Native.Nat.{ℕ, zero, suc, _+_, _-_, _*_, _%_, _≤_, _<_}
 use native.Mathlib.Decide.{ℕ-discrete}
-use native.Mathlib.Nat.{add-assoc, mod-add-mod, mod-lt, mod-mod, zero-add}
+use native.Mathlib.Nat.{add-assoc, add-mul, mod-add-mod, mod-lt, mod-mod, zero-add}
 use native.Mathlib.Omega.{arith}
 use lib.ListN.{length, getD, replicate}
 use Rattle.algebra.specs.Prime.{Prime}
@@ -63,6 +63,10 @@ module _ {p n : ℕ} {t s m c : List ℕ} (prime : Prime p) (wt : Words p n t) (
         by-place : (i j : ℕ) → i < n → j < n → Dec (j ≡ i) → entry c i j < p
         by-place i j li lj (yes e) = rw (e, shifted .diagonal i li) (mod-lt (entry m i i + (p - z)) (omega arith))
         by-place i j li lj (no other) = rw (shifted .others i j li lj other) (powers-square big wt ws powers .below i j li lj)
+
+-- p − z stands for −z
+pub complement : (p z x : ℕ) → z ≤ p → (p - z) * x + z * x ≡ p * x
+complement p z x l = let e : p - z + z ≡ p = omega arith in sym (add-mul (p - z) z x) ∙ ap (λ y. y * x) e
 
 -- the right side of a homogeneous system
 pub zero-holds : (p n : ℕ) → Prime p → n ≤ 16 → Holds p n (replicate 16 0)

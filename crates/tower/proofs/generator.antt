@@ -1,2 +1,2 @@
 -- The laws on which the proofs of `generator` rest.
-mod Climb
+mod ArrayRounds

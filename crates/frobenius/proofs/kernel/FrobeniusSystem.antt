@@ -4,7 +4,7 @@ use mathlib.Core.Path.{_≡_, sym, ap, _∙_}
 use mathlib.Core.Bool.{Bool}
 use mathlib.Core.List.{List, []}
 use Prim.Native.Nat.{ℕ, _+_, _-_, _*_, _%_, _≤_, _<_}
-use native.Mathlib.Nat.{add-assoc, add-comm, add-mul, add-mul-mod-self-left, mod-add-mod, mod-eq-of-lt, mul-mod-right, zero-add, zero-mod}
+use native.Mathlib.Nat.{add-assoc, add-comm, add-mul-mod-self-left, mod-add-mod, mod-eq-of-lt, mul-mod-right, zero-add, zero-mod}
 use native.Mathlib.Omega.{arith}
 use lib.ListN.{getD, take, replicate}
 use Rattle.algebra.specs.Prime.{Prime}
@@ -21,12 +21,12 @@ use Rattle.matrix.proofs.FrobeniusMatrix.{power-x-words}
 use Rattle.array.proofs.Padded.{words-at}
 use Rattle.frobenius.specs.Kernel.{Kernel}
 use Rattle.scalar.specs.Shifted.{Shifted}
-use Rattle.scalar.proofs.ShiftedMatrix.{shifted-word, shifted-square}
+use Rattle.scalar.proofs.ShiftedMatrix.{shifted-word, shifted-square, complement}
 
 -- a + (p − z)·x = 0 says a = z·x
 module _ (p z a x : ℕ) (below : z < p) where
   cancel : (p - z) * x + z * x ≡ p * x
-  cancel = let e : p - z + z ≡ p = omega arith in sym (add-mul (p - z) z x) ∙ ap (λ y. y * x) e
+  cancel = complement p z x (omega arith)
 
   equal-of-zero : a < p → (a + (p - z) * x) % p ≡ 0 → a ≡ z * x % p
   equal-of-zero l h =

@@ -1,11 +1,9 @@
 -- One row of the system: for X below p, X + (p − 1)·Y + A·U = 0 modulo p says X = Y + (p − U)·A.
 use mathlib.Core.Path.{_≡_, sym, ap, _∙_}
 use Prim.Native.Nat.{ℕ, _+_, _-_, _*_, _%_, _≤_, _<_}
-use native.Mathlib.Nat.{add-mod-mod, add-mul, add-mul-mod-self-left, mod-add-mod, mod-eq-of-lt, mul-mod-right, zero-add}
+use native.Mathlib.Nat.{add-mod-mod, add-mul-mod-self-left, mod-add-mod, mod-eq-of-lt, mul-mod-right, zero-add}
 use native.Mathlib.Omega.{arith}
-
-complement : (p c x : ℕ) → c ≤ p → (p - c) * x + c * x ≡ p * x
-complement p c x l = let e : p - c + c ≡ p = omega arith in sym (add-mul (p - c) c x) ∙ ap (λ y. y * x) e
+use Rattle.scalar.proofs.ShiftedMatrix.{complement}
 
 module _ (p X Y A U : ℕ) (big : 2 ≤ p) (small : U ≤ p) where
   -- the two sides together are a multiple of p

@@ -1,7 +1,7 @@
 -- `further`: one round after the other; the first that has no solution shows a proper divisor.
 use borrow.Author.Needs.{needs}
 use Prim.Native.Nat.{_-_, _≤_}
-use Rattle.tower.proofs.generator.Climb.{next-reached, next-none, last-reached}
+use Rattle.tower.proofs.generator.ArrayRounds.{next-reached, next-none, last-reached}
 use Rattle.tower.specs.Generator.{Reached}
 use lib.ListN.{take}
 use Rattle.tower.proofs.generator.further.Statement.{statement}

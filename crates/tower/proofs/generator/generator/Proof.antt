@@ -1,6 +1,6 @@
 -- `generator`: the first round with a = 1, and the others.
 use borrow.Author.Needs.{needs}
-use Rattle.tower.proofs.generator.Climb.{one-holds, first-reached, first-none}
+use Rattle.tower.proofs.generator.ArrayRounds.{one-holds, first-reached, first-none}
 use Rattle.tower.proofs.generator.generator.Statement.{statement}
 use Rattle.tower.proofs.generator.generator.Tie as tie
 

@@ -1,6 +1,6 @@
 -- `raised` is a·α^(p − 1).
 use borrow.Author.Needs.{needs}
-use Rattle.tower.proofs.generator.Climb.{power-holds, raised-is, raised-holds}
+use Rattle.tower.proofs.generator.ArrayRounds.{power-holds, raised-is, raised-holds}
 use Rattle.tower.proofs.generator.raised.Statement.{statement}
 use Rattle.tower.proofs.generator.raised.Tie as tie
 
