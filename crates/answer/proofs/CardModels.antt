@@ -9,8 +9,7 @@ use Rattle.card.specs.Card.{wordCount, cardPrime, cardDegree, cardKind, cardWor
 use Rattle.card.proofs.CardKinds.{kind-bounds, count-job, count-pair}
 use Rattle.card.proofs.Header.{degree-least, degree-most, word-count}
 use Rattle.card.proofs.Refusals.{Readable, readable}
-use Rattle.refusal.specs.Models.{Models}
-use Rattle.pair.specs.Theorem.{Given}
+use Rattle.refusal.specs.Models.{Models, Given}
 use Rattle.answer.specs.Answer.{part, cardPart}
 use Rattle.answer.proofs.Parts.{part-front, part-words}
 

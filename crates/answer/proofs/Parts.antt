@@ -5,10 +5,10 @@ use Prim.Native.Nat.{ℕ, _+_, _-_, _*_, _≤_}
 use native.Mathlib.Omega.{arith}
 use lib.ListN.{length, take, drop, length-take, length-drop}
 use lib.Seq.{length-take-le, take-append-le, drop-append-le, take-add}
-use Rattle.pair.specs.Theorem.{Given}
 use Rattle.array.specs.Words.{Words}
 use Rattle.array.proofs.Words.{take-words, drop-words}
 use Rattle.answer.specs.Answer.{part}
+use Rattle.refusal.specs.Models.{Given}
 
 pub prefix-length : (k : ℕ) (xs : List ℕ) → k ≤ length xs → k ≡ length (take k xs)
 prefix-length k xs h = sym (length-take-le k xs h)

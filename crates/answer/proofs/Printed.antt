@@ -8,9 +8,8 @@ use Rattle.refusal.proofs.Refusal.{given-sent}
 use Rattle.card.specs.Card.{card, cardLength, writeNumber}
 use Rattle.finder.specs.Finder.{refuseFind}
 use Rattle.pair.specs.Pair.{congruencesHold, refusePair, checkNumber, checkNumberOr}
-use Rattle.pair.proofs.Refusals.{all-sent}
-use Rattle.refusal.specs.Models.{Models}
-use Rattle.pair.specs.Theorem.{Given}
+use Rattle.refusal.proofs.Models.{all-sent}
+use Rattle.refusal.specs.Models.{Models, Given}
 use Rattle.answer.specs.Answer.{part, pairText, validText, ringText, refusedText, printed, pairWords, jobText, pairLine, pairCardText}
 use Rattle.answer.specs.JobWords.{JobWords}
 use Rattle.text.specs.Text.{Begins}

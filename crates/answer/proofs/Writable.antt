@@ -9,8 +9,7 @@ use Rattle.array.specs.Words.{Words}
 use Rattle.array.proofs.Words.{append-words}
 use Rattle.card.specs.Card.{badKind, cardLength, writeNumber}
 use Rattle.card.proofs.Refusals.{write-accepts}
-use Rattle.refusal.specs.Models.{Models}
-use Rattle.pair.specs.Theorem.{Given}
+use Rattle.refusal.specs.Models.{Models, Given}
 use Rattle.pair.proofs.Theorem.{checker-theorem}
 use Rattle.finder.specs.Finder.{refuseFind, findNumber, findS, findR, findOutputS, findOutputR}
 use Rattle.finder.proofs.Theorem.{demand-3}

@@ -9,16 +9,13 @@ use mathlib.Core.Bool.{Bool, true, false}
 use mathlib.Core.List.{List, [], _∷_}
 use Prim.Native.Nat.{ℕ}
 use lib.ListN.{take}
-use Rattle.refusal.specs.Models.{Models}
-use Rattle.refusal.proofs.Models.{models-sent}
-use Rattle.pair.specs.Theorem.{Given}
-use Rattle.pair.proofs.Refusals.{given, all-sent}
+use Rattle.refusal.specs.Models.{Models, Given}
+use Rattle.refusal.proofs.Models.{models-sent, given, all-sent}
 use Rattle.array.specs.Words.{Words}
 use Rattle.array.specs.Array.{padded}
 use Rattle.array.proofs.Words.{words-length}
 use Rattle.array.proofs.Padded.{take-padded}
-use Rattle.held.specs.Held.{View, empty, loaded, paired, valid, validAs, validHeld, ifValid, viewAs, t1Of, t2Of, sOf, rOf, view, loadedHeld, pairedHeld}
-use Rattle.held.specs.Theorem.{Arrays}
+use Rattle.held.specs.Held.{View, empty, loaded, paired, valid, validAs, validHeld, ifValid, viewAs, t1Of, t2Of, sOf, rOf, view, loadedHeld, pairedHeld, Arrays}
 use Rattle.held.specs.ViewState.{viewState}
 use Rattle.held.specs.declared.Held.{Held}
 use Rattle.held.specs.declared.State.{State}

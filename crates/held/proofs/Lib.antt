@@ -1,7 +1,3 @@
--- What a value counts as, and what is proved of load, propose and find.
-mod Accepted
-mod Answer
-mod Calls
+-- What a value counts as.
 pub mod Valid
 pub mod Contents
-pub mod Theorem

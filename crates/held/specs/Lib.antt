@@ -1,4 +1,3 @@
--- What a session holds: what a value counts as, the answers of load, propose and find, and what is proved of them.
+-- What a session holds: empty, loaded or paired, and what a value counts as.
 pub mod Held
 pub mod ViewState
-pub mod Theorem

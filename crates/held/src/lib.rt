@@ -1,13 +1,6 @@
-// What a session holds: nothing, two models, or two models and a pair (document 01, "The session"), and the calls that change it. They take a
-// value and give the next one; none requires anything.
-//   load      Held::load: empty to loaded
-//   propose   Held::propose: loaded to paired with a pair that the checker accepts
-//   find      Held::find: loaded to paired with the finder's pair
+// What a session holds: nothing, two models, or two models and a pair (document 01, "The session").
 //   view      what a value counts as
 //   value     the values that the calls make
-mod find;
-mod load;
-mod propose;
 pub mod value;
 pub mod view;
 
@@ -34,12 +27,6 @@ pub struct Held {
     pub t2: [Word; DEGREE],
     pub s: [Word; DEGREE],
     pub r: [Word; DEGREE],
-}
-
-// A call's answer: 0 or the number of the refusal, and the next value.
-pub struct HeldStep {
-    pub number: u32,
-    pub held: Held,
 }
 
 impl Held {

@@ -7,8 +7,7 @@ ghost use mathlib.Core.Path.{_≡_};
 ghost use Prim.Native.Nat.{_≤_};
 ghost use lib.ListN.{length, take};
 ghost use Rattle.array.specs.Array.{padded};
-ghost use Rattle.refusal.specs.Models.{Models};
-ghost use Rattle.pair.specs.Theorem.{Given};
+ghost use Rattle.refusal.specs.Models.{Models, Given};
 ghost use Rattle.refusal.specs.Refusal.{largestDegree};
 ghost use Rattle.held.specs.Held.{loadedHeld, pairedHeld};
 

@@ -5,7 +5,7 @@ use mathlib.Core.List.{List}
 use Prim.Native.Nat.{ℕ, _*_}
 use lib.ListN.{length}
 use Rattle.pair.specs.Pair.{checkNumber}
-use Rattle.pair.specs.Theorem.{Given}
+use Rattle.refusal.specs.Models.{Given}
 
 pub record Accepted (p n : ℕ) (t1 t2 s r out : List ℕ) : Type 0 where
   pub number : checkNumber p n t1 t2 s r ≡ 0

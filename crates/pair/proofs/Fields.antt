@@ -19,8 +19,9 @@ use Rattle.quotient.specs.Residue.{constant, product, Inverses}
 use Rattle.quotient.proofs.Decision.{irreducible-test, test-irreducible}
 use Rattle.quotient.proofs.Substitution.{zero-substitute}
 use Rattle.pair.specs.Pair.{forward, backward, Congruences, congruencesHold}
-use Rattle.pair.specs.Theorem.{Given, Isomorphisms, Fields}
+use Rattle.pair.specs.Theorem.{Isomorphisms, Fields}
 use Rattle.pair.proofs.CongruenceTest.{congruences-of-hold, isomorphisms-of-congruences}
+use Rattle.refusal.specs.Models.{Given}
 
 module _ {p n : ℕ} {t1 t2 : List ℕ} (w1 : Words p n t1) (w2 : Words p n t2) (f g : List ℕ → List ℕ) (forth : Preserves p t1 t2 f) (back : Preserves p t2 t1 g)
     (undoes : Undoes p n f g) (zero : f (constant n 0) ≡ constant n 0) where

@@ -8,44 +8,16 @@ use lib.ListN.{length, take}
 use Rattle.array.specs.Words.{Words}
 use Rattle.refusal.specs.Refusal.{refuse, refuseSent, badPrime, badDegree, badLength, badWord}
 use Rattle.refusal.proofs.Refusal.{Sent, sent-given, given-sent, sent-stays}
-use Rattle.refusal.proofs.Lists.{words-of, words-below}
-use Rattle.refusal.proofs.Models.{models-sent, sent-models}
+use Rattle.refusal.proofs.Models.{given}
 use Rattle.array.proofs.Words.{words-length}
 use Rattle.array.specs.Array.{padded, Holds}
 use Rattle.array.proofs.Padded.{holds-is, front-is}
-use Rattle.refusal.specs.Models.{Model}
+use Rattle.refusal.specs.Models.{Model, Given}
 use Rattle.quotient.specs.DivisorTest.{hasDivisor}
 use borrow.Author.Tests.{eqb-true, not-true, not-false}
 use lib.Dec.{eqb}
 use Rattle.pair.specs.Pair.{congruencesHold, refusePair, checkNumber, checkNumberOr}
 use Rattle.pair.proofs.Fields.{second-none}
-use Rattle.pair.specs.Theorem.{Given}
-
--- what 1 to 4 leave
-
-module _ (p n : ℕ) (t1 t2 s r : List ℕ) where
-  abbrev lists : List (List ℕ)
-  lists = t1 ∷ t2 ∷ s ∷ r ∷ []
-
-  pub given : Sent p n lists lists → Given p n t1 t2 s r
-  given h =
-      record {
-        models = sent-models p n t1 t2 (s ∷ r ∷ []) (s ∷ r ∷ []) h;
-        words-s = words-of p n s (h .lengths .1 .1 .0) (h .below .1 .1 .0);
-        words-r = words-of p n r (h .lengths .1 .1 .1 .0) (h .below .1 .1 .1 .0);
-      }
-
-  pub all-sent : Given p n t1 t2 s r → Sent p n lists lists
-  all-sent g =
-      let sent = models-sent p n t1 t2 (s ∷ r ∷ []) (g .models) (words-length (g .words-s), (words-length (g .words-r), tt)) in
-      record {
-        prime = sent .prime;
-        small = sent .small;
-        low = sent .low;
-        high = sent .high;
-        lengths = sent .lengths;
-        below = (sent .below .0, (sent .below .1 .0, (words-below (g .words-s), (words-below (g .words-r), tt))));
-      }
 
 -- the number
 

@@ -7,11 +7,12 @@ use Rattle.quotient.specs.DivisorTest.{hasDivisor}
 use Rattle.quotient.proofs.Decision.{has-divisor?, irreducible-test, test-irreducible}
 use Rattle.refusal.proofs.Refusal.{refuse-none, sent-given, given-sent}
 use Rattle.pair.specs.Pair.{Congruences, congruencesHold, refusePair, checkNumberOr}
-use Rattle.pair.specs.Theorem.{Given, CheckerTheorem, CongruencesTheorem, DivisorsTogether, DegreeOne}
+use Rattle.pair.specs.Theorem.{CheckerTheorem, CongruencesTheorem, DivisorsTogether, DegreeOne}
 use Rattle.pair.proofs.CongruenceTest.{hold-of-congruences, congruences-of-hold, isomorphisms-of-congruences}
 use Rattle.pair.proofs.DegreeOne.{x-is-constant, accepted-degree-one}
 use Rattle.pair.proofs.Fields.{irreducible-forth, irreducible-back, isomorphisms-given, fields-given}
-use Rattle.pair.proofs.Refusals.{given, all-sent}
+use Rattle.refusal.proofs.Models.{given, all-sent}
+use Rattle.refusal.specs.Models.{Given}
 use borrow.Author.Tests.{not-false}
 
 pub checker-theorem : CheckerTheorem

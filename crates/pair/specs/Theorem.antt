@@ -4,7 +4,7 @@
 -- modulus has a monic divisor of degree 1 to n − 1 and the four congruences hold; and then every residue but 0 has an inverse on both sides, the two maps
 -- preserve sums, products and one on all residues, and each undoes the other.
 --   Models p n t1 t2             (of refusal) p is a prime up to 65,535, n is 1 to 16, t1 and t2 are n words below p each
---   Given p n t1 t2 s r          also s and r are n words below p each: what 1 to 4 do not refuse
+--   Given p n t1 t2 s r          (of refusal) also s and r are n words below p each: what 1 to 4 do not refuse
 --   Fields p n t1 t2             neither modulus has a monic divisor of degree 1 to n − 1, and every residue but 0 has an inverse
 --   Isomorphisms p n t1 t2 s r   both maps preserve sums, products and one, and each undoes the other
 --   CheckerTheorem               what the answer 0 means
@@ -19,14 +19,9 @@ use Prim.Native.Nat.{ℕ, _-_, _%_, _≤_, _<_}
 use Rattle.quotient.specs.Divisor.{HasDivisor}
 use Rattle.quotient.specs.Map.{Preserves, Undoes}
 use Rattle.array.specs.Words.{Words}
-use Rattle.refusal.specs.Models.{Models}
+use Rattle.refusal.specs.Models.{Given}
 use Rattle.pair.specs.Pair.{forward, backward, Congruences, congruencesHold, checkNumber}
 use Rattle.quotient.specs.Residue.{residueOfX, Inverses}
-
-pub record Given (p n : ℕ) (t1 t2 s r : List ℕ) : Type 0 where
-  pub models : Models p n t1 t2
-  pub words-s : Words p n s
-  pub words-r : Words p n r
 
 pub record Isomorphisms (p n : ℕ) (t1 t2 s r : List ℕ) : Type 0 where
   pub forward-preserves : Preserves p t1 t2 (forward p t2 s)

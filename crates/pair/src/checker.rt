@@ -13,7 +13,7 @@ ghost use mathlib.Core.Path.{_≡_};
 ghost use mathlib.Core.List.{[], _∷_};
 ghost use Rattle.refusal.specs.Refusal.{refuseSent};
 ghost use Rattle.pair.specs.Pair.{congruencesHold, refusePair, checkNumber, checkNumberOr};
-ghost use Rattle.pair.specs.Theorem.{Given};
+ghost use Rattle.refusal.specs.Models.{Given};
 
 // The number of the first refusal from 1 to 4 that applies, 0 where none does.
 fn refusal(p: u32, n: u32, t1: &[Word], t2: &[Word], s: &[Word], r: &[Word]) -> u32

@@ -1,11 +1,11 @@
--- To a model, to two models, and to any lists of n words, 1 to 4 do not apply; and to what they do not apply are such models.
+-- To a model, to two models and a pair for them, and to any lists of n words, 1 to 4 do not apply; and what they do not apply to are such models and pairs.
 use mathlib.Core.Path.{_≡_}
 use mathlib.Core.List.{List, [], _∷_}
 use Prim.Native.Nat.{ℕ}
 use lib.ListN.{length}
 use Rattle.algebra.specs.Lists.{All}
 use Rattle.array.proofs.Words.{words-length}
-use Rattle.refusal.specs.Models.{Model, Models}
+use Rattle.refusal.specs.Models.{Model, Models, Given}
 use Rattle.refusal.proofs.Lists.{words-of, words-below}
 use Rattle.refusal.proofs.Refusal.{Sent}
 
@@ -44,4 +44,28 @@ module _ (p n : ℕ) (t1 t2 : List ℕ) (xss : List (List ℕ)) where
         degree = (h .low, h .high);
         modulus1 = words-of p n t1 (h .lengths .0) (h .below .0);
         modulus2 = words-of p n t2 (h .lengths .1 .0) (h .below .1 .0);
+      }
+
+module _ (p n : ℕ) (t1 t2 s r : List ℕ) where
+  abbrev lists : List (List ℕ)
+  lists = t1 ∷ t2 ∷ s ∷ r ∷ []
+
+  pub given : Sent p n lists lists → Given p n t1 t2 s r
+  given h =
+      record {
+        models = sent-models p n t1 t2 (s ∷ r ∷ []) (s ∷ r ∷ []) h;
+        words-s = words-of p n s (h .lengths .1 .1 .0) (h .below .1 .1 .0);
+        words-r = words-of p n r (h .lengths .1 .1 .1 .0) (h .below .1 .1 .1 .0);
+      }
+
+  pub all-sent : Given p n t1 t2 s r → Sent p n lists lists
+  all-sent g =
+      let sent = models-sent p n t1 t2 (s ∷ r ∷ []) (g .models) (words-length (g .words-s), (words-length (g .words-r), tt)) in
+      record {
+        prime = sent .prime;
+        small = sent .small;
+        low = sent .low;
+        high = sent .high;
+        lengths = sent .lengths;
+        below = (sent .below .0, (sent .below .1 .0, (words-below (g .words-s), (words-below (g .words-r), tt))));
       }

@@ -1,6 +1,7 @@
--- A model, and two models of one size (document 01, "Models and residues"): what 1 to 4 do not refuse.
+-- A model, two models of one size, and a pair for them (document 01, "Models and residues"): what 1 to 4 do not refuse.
 --   Model p n t        p is a prime up to 65,535, n is 1 to 16, and t is n words below p
 --   Models p n t1 t2   p is a prime up to 65,535, n is 1 to 16, and t1 and t2 are n words below p each
+--   Given p n t1 t2 s r    also s and r are n words below p each
 use mathlib.Core.List.{List}
 use Prim.Native.Nat.{ℕ, _≤_}
 use Rattle.algebra.specs.Prime.{Prime}
@@ -20,3 +21,8 @@ pub record Models (p n : ℕ) (t1 t2 : List ℕ) : Type 0 where
   pub degree : (1 ≤ n) × (n ≤ largestDegree)
   pub modulus1 : Words p n t1
   pub modulus2 : Words p n t2
+
+pub record Given (p n : ℕ) (t1 t2 s r : List ℕ) : Type 0 where
+  pub models : Models p n t1 t2
+  pub words-s : Words p n s
+  pub words-r : Words p n r

@@ -1,8 +1,8 @@
 // The call that prints a pair.
 ghost use mathlib.Core.Path.{_≡_};
 ghost use lib.ListN.{length};
-ghost use Rattle.pair.specs.Theorem.{Given};
 ghost use Rattle.sheet.specs.Sheet.{sheetText, sheetLength, sheetNumber, sheetOutput};
+ghost use Rattle.refusal.specs.Models.{Given};
 use crate::lines::put_polynomial;
 use array::Word;
 use pair::checker::check_with_output;

@@ -7,12 +7,12 @@ use lib.ListN.{length}
 use lib.Seq.{take-all}
 use Rattle.array.specs.Words.{Words}
 use Rattle.array.proofs.Words.{words-length, to-length}
-use Rattle.pair.specs.Theorem.{Given}
 use Rattle.text.specs.Ascii.{ascii}
 use Rattle.text.specs.Text.{Appended}
 use Rattle.text.proofs.Append.{append-both}
 use Rattle.sheet.specs.Sheet.{polynomial, sheetText, sheetLength}
 use Rattle.sheet.proofs.LineLengths.{polynomial-length}
+use Rattle.refusal.specs.Models.{Given}
 
 -- a list of n words
 

@@ -7,10 +7,10 @@ use lib.Dec.{eqb}
 use lib.ListN.{length}
 use Rattle.refusal.proofs.Written.{output-new, output-old}
 use Rattle.pair.specs.Pair.{checkNumberOr}
-use Rattle.pair.specs.Theorem.{Given}
 use Rattle.pair.proofs.Refusals.{accepted-output}
 use Rattle.pair.proofs.Theorem.{checker-theorem}
 use Rattle.sheet.specs.Sheet.{sheetText, sheetLength, sheetNumber, sheetOutput}
+use Rattle.refusal.specs.Models.{Given}
 
 module _ (p n number m : ℕ) (t1 t2 s r out : List ℕ) (asked : m ≡ sheetLength n) (e : number ≡ checkNumberOr (not (eqb (length out) m)) p n t1 t2 s r) where
   pub number-is : number ≡ sheetNumber p n t1 t2 s r out

@@ -1,0 +1,2 @@
+-- What the proofs of addressing use.
+mod Laws

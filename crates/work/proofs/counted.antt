@@ -1,0 +1,2 @@
+-- What the proofs of counting use.
+mod Laws
