@@ -1,3 +1,2 @@
--- The number of a conversion, and what the functions that convert go by.
+-- Conversions by what is held: the map of a direction, the number, and what the lent list then holds.
 pub mod Conversion
-pub mod ByHeld

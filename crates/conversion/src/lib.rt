@@ -1,3 +1,7 @@
-// The conversion of tables by what a session holds, where a number of records count: the session and its form over C both go by it.
-//   convert   a table converted by what is held
+// The conversion of tables by what is held: forward by the map u ↦ u(S) modulo T2, back by u ↦ u(R) modulo T1.
+//   images    the images of a table's groups under the map of a direction
+//   number    the number of a conversion
+//   convert   forward and back, without the ledger
 pub mod convert;
+pub mod images;
+pub mod number;

@@ -1,10 +1,10 @@
 -- The output is written only where the number is 0.
 use borrow.Author.Needs.{needs}
 use Rattle.refusal.proofs.Written.{output-new, output-old}
-use Rattle.conversion.specs.ByHeld.{outputFrom}
-use Rattle.conversion.proofs.Numbers.{convert-refuses, map-valid, table-given, degree-positive, residues-fit, convert-converts}
-use Rattle.conversion.proofs.convert.convert_by.Statement.{statement}
-use Rattle.conversion.proofs.convert.convert_by.Tie as tie
+use Rattle.conversion.specs.Conversion.{convertOutput}
+use Rattle.conversion.proofs.Numbers.{convert-refuses, number-paired, table-given, divisor-positive, residues-fit, convert-converts}
+use Rattle.conversion.proofs.convert.convert.Statement.{statement}
+use Rattle.conversion.proofs.convert.convert.Tie as tie
 
 convert-number-requires : tie.Need-convert-number-requires
 convert-number-requires c κs = search needs
@@ -13,38 +13,38 @@ same-length : tie.Need-same-length
 same-length c = search needs
 
 returns : tie.Need-returns
-unfolding outputFrom
+unfolding convertOutput
 returns c = (search convert-refuses, search output-old)
 
-convert-words-requires : tie.Need-convert-words-requires
-convert-words-requires c κs = (search map-valid, search table-given)
+images-requires : tie.Need-images-requires
+images-requires c κs = (search number-paired, search table-given)
 
 cast-residues : tie.Need-cast-residues
 cast-residues c = search needs
 
 div-residues : tie.Need-div-residues
-div-residues c = search degree-positive
+div-residues c = search divisor-positive
 
-cast-t17 : tie.Need-cast-t17
-cast-t17 c = search residues-fit
+cast-t19 : tie.Need-cast-t19
+cast-t19 c = search residues-fit
 
 same-length-2 : tie.Need-same-length-2
 same-length-2 c = search needs
 
 returns-2 : tie.Need-returns-2
-unfolding outputFrom
+unfolding convertOutput
 returns-2 c = (search convert-converts, search output-new)
 
-pub convert-by-spec : {M : Type 1} → statement M
-convert-by-spec =
+pub convert-spec : {M : Type 1} → statement M
+convert-spec =
     tie.close
     (tie.spec
     convert-number-requires
     same-length
     returns
-    convert-words-requires
+    images-requires
     cast-residues
     div-residues
-    cast-t17
+    cast-t19
     same-length-2
     returns-2)

@@ -1,9 +1,9 @@
 -- The first n words of the arrays are lists of n words below p.
 use borrow.Author.Needs.{needs}
 use Rattle.held.proofs.Valid.{valid-size, front-fits}
-use Rattle.conversion.proofs.convert.Laws.{modulus-words, image-words, converts-fronts}
-use Rattle.conversion.proofs.convert.convert_words.Statement.{statement}
-use Rattle.conversion.proofs.convert.convert_words.Tie as tie
+use Rattle.conversion.proofs.images.Laws.{modulus-words, image-words, converts-fronts}
+use Rattle.conversion.proofs.images.convert_words.Statement.{statement}
+use Rattle.conversion.proofs.images.convert_words.Tie as tie
 
 slice-aggregate-front : tie.Need-slice-aggregate-front
 slice-aggregate-front c = search needs

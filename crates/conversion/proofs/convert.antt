@@ -1,2 +1,0 @@
--- What the proofs of conversion use.
-mod Laws

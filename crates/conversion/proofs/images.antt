@@ -1,0 +1,2 @@
+-- What the proofs of the images use.
+mod Laws

@@ -1,0 +1,2 @@
+-- What the proofs of begin use.
+mod Laws

@@ -1,0 +1,2 @@
+-- What the proofs of end use.
+mod Laws

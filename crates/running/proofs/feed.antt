@@ -1,0 +1,2 @@
+-- What the proofs of feed use.
+mod Laws
