@@ -14,7 +14,7 @@
  *    6  T1, or T where a call has one modulus, has a monic divisor of degree 1 to n - 1
  *    7  T2 has one
  *    8  one of the congruences T1(S) = 0 mod T2, T2(R) = 0 mod T1, S(R) = X mod T1, R(S) = X mod T2 fails
- *    9  words to convert: above 32,768 or not a multiple of n
+ *    9  words to convert: above 32,768 or not a multiple of n; or a part that would bring its table above 4,294,967,295 residues
  *   10  output length differs from input length
  *   11  card under 3 bytes, or not of its exact length
  *   12  kind is neither 1 nor 2
@@ -22,6 +22,8 @@
  *   21  the session is empty        22  it is loaded without a pair
  *   23  it is not empty             24  it is paired
  *   25  the ledger holds 512 records
+ *   26  no table is open            27  a table is open
+ * Load, propose and find act on the current session; while a table is open they act on the waiting one, and 21, 23 and 24 are about that.
  *
  * Lists: each pointer must point to as many words as its length says (a list of length 0 may have any pointer that is not null and is
  * aligned), and a list that a call writes must not overlap any other list of the same call.
@@ -80,21 +82,32 @@ size_t yokebean_sheet_length(uint32_t n);
 uint32_t yokebean_find(uint32_t p, uint32_t n, const uint16_t *t1, size_t t1_len, const uint16_t *t2, size_t t2_len,
                        uint16_t *s, size_t s_len, uint16_t *r, size_t r_len);
 
-/* A record of the ledger, one for each conversion that succeeded: direction 0 is forward, 1 back. */
+/* A record of the ledger, one for each single conversion that succeeded and for each table that was ended: direction 0 is forward, 1 back. */
 typedef struct {
     uint32_t direction, residues;
 } yokebean_record;
 
-/* A session's value: state 0 is empty, 1 loaded (p, n, t1, t2), 2 paired (also s, r); the first n words of each array and the first `records`
- * records of the ledger count. A value with another state, with more than 512 records, with another direction in a record that counts, or with a
- * p, n or coefficient, of those that its state has, that 1, 2 or 4 refuses, counts as a new one, so without records. Past the records that
- * count the ledger is not looked at and stays as it is. The moduli and the pair of a paired value are not tested again for divisors and congruences:
- * it converts by plain substitution. */
+/* What a session holds: state 0 is empty, 1 loaded (p, n, t1, t2), 2 paired (also s, r); the first n words of each array count. */
+typedef struct {
+    uint32_t state, p, n;
+    uint16_t t1[16], t2[16], s[16], r[16];
+} yokebean_held;
+
+/* A session's value: what the current session holds, field by field as in yokebean_held; the ledger, of which the first `records` records count; and
+ * the open table. open is 0 without an open table, 1 with a forward one, 2 with a back one. fed is the number of residues fed to it so far, and
+ * waiting what the waiting session holds; neither is looked at without an open table. What a call makes without one has 0 in open, fed and waiting.
+ * A value counts as a new one, so without records and without an open table, if its state or open is above 2, if it has more than 512 records or
+ * another direction in a record that counts, or if it has a p, n or coefficient, of those that its state has, that 1, 2 or 4 refuses. With a table
+ * open it also does if it is not paired, if it has 512 records, or if the state, p, n or a coefficient of the waiting session is of such a sort.
+ * Past the records that count the ledger is not looked at and stays as it is. The moduli and the pair of a paired value are not tested again for
+ * divisors and congruences: it converts by plain substitution. */
 typedef struct {
     uint32_t state, p, n;
     uint16_t t1[16], t2[16], s[16], r[16];
     uint32_t records;
     yokebean_record ledger[512];
+    uint32_t open, fed;
+    yokebean_held waiting;
 } yokebean_session;
 
 /* A session call's answer: the number, and the next session; refused, the session that the call took, byte for byte. */
@@ -103,7 +116,7 @@ typedef struct {
     yokebean_session session;
 } yokebean_step;
 
-/* A new session is empty and has no records. */
+/* A new session is empty and has no records and no open table. */
 yokebean_session yokebean_session_new(void);
 
 /* Empty to loaded. 23, 1 to 4. */
@@ -117,19 +130,31 @@ yokebean_step yokebean_session_propose(yokebean_session session, const uint16_t 
 yokebean_step yokebean_session_find(yokebean_session session);
 
 /* Converts a table of residues modulo T1, group of n words by group: u -> u(S) mod T2. The next session has one record more, of table_len / n
- * residues, also for an empty table. 21, 22, 9, 10, 4, 25. */
+ * residues, also for an empty table. 21, 22, 27, 9, 10, 4, 25. */
 yokebean_step yokebean_session_forward(yokebean_session session, const uint16_t *table, size_t table_len, uint16_t *out, size_t out_len);
 
-/* Converts a table of residues modulo T2: u -> u(R) mod T1. It adds a record in the same way. 21, 22, 9, 10, 4, 25. */
+/* Converts a table of residues modulo T2: u -> u(R) mod T1. It adds a record in the same way. 21, 22, 27, 9, 10, 4, 25. */
 yokebean_step yokebean_session_back(yokebean_session session, const uint16_t *table, size_t table_len, uint16_t *out, size_t out_len);
 
-/* The report, in every state: the records in order, each as F or B, a blank, the decimal number of residues and a newline; then the forward and
- * the back total, each a decimal number and a newline. ASCII, without a zero at the end. out has yokebean_session_report_length(session) bytes.
- * The session given back is always the one that was taken, byte for byte. 3. */
+/* Opens a table that comes in parts, of residues modulo T1 (forward) or modulo T2 (back). It has no residues yet, and the waiting session is
+ * empty. Until end or clear the table keeps the pair that it begins with. 21, 22, 27, 25. */
+yokebean_step yokebean_session_begin_forward(yokebean_session session);
+yokebean_step yokebean_session_begin_back(yokebean_session session);
+
+/* Converts a part of the open table, as forward or back does; the table has table_len / n residues more. It adds no record. 26, 9, 10, 4. */
+yokebean_step yokebean_session_feed(yokebean_session session, const uint16_t *table, size_t table_len, uint16_t *out, size_t out_len);
+
+/* Closes the open table and adds one record with all its residues, also without a feed. A paired waiting session becomes the current one; another
+ * is dropped, and the old pair stays. 26. */
+yokebean_step yokebean_session_end(yokebean_session session);
+
+/* The report, in every state, also with a table open: the records in order, each as F or B, a blank, the decimal number of residues and a newline;
+ * then the forward and the back total, each a decimal number and a newline. ASCII, without a zero at the end. out has
+ * yokebean_session_report_length(session) bytes. The session given back is always the one that was taken, byte for byte. 3. */
 yokebean_step yokebean_session_report(yokebean_session session, uint8_t *out, size_t out_len);
 size_t yokebean_session_report_length(yokebean_session session);
 
-/* Any state to empty; keeps the ledger; never refused. */
+/* Any state to empty; drops the open table, without a record, and the waiting session; keeps the ledger; never refused. */
 yokebean_step yokebean_session_clear(yokebean_session session);
 
 /* The reader's answer: kind 1 is a job (T1, T2), kind 2 a pair card (T1, T2, S, R). */

@@ -1,31 +1,37 @@
 // The session, as C has it. A value made otherwise counts as a new session.
 use array::Word;
-use conversion::convert::back_by;
-use conversion::convert::forward_by;
+use conversion::convert::convert as convert_table;
+use cvalue::HeldValue;
 use cvalue::RecordValue;
 use cvalue::SessionValue;
 use cvalue::StepValue;
-use cvalue::sessions::conversion_answers;
-use cvalue::sessions::held_answers;
-use cvalue::sessions::held_of;
-use cvalue::sessions::is_valid_value;
+use cvalue::answers::holding;
+use cvalue::answers::record_answers;
+use cvalue::answers::work_answers;
+use cvalue::sessions::counted_value;
 use cvalue::sessions::session_of;
-use held::Held;
-use held::HeldStep;
 use ledger::Direction;
-use session::counted::held_if;
+use pairing::find::find as find_held;
+use pairing::load::load as load_held;
+use pairing::propose::propose as propose_held;
+use running::begin::begin as begin_table;
+use running::end::end as end_table;
+use running::feed::feed as feed_table;
+use work::Work;
+use work::WorkStep;
+use work::addressed::addressed;
 ghost use mathlib.Core.Path.{_≡_};
 ghost use lib.ListN.{length};
 ghost use Rattle.cvalue.specs.Values.{newValue, sessionOf, stepOf, givenBack};
 ghost use Rattle.ledger.specs.declared.Direction.the-variants.{Forward, Back};
-ghost use Rattle.session.specs.Session.{load, propose, find, convert, forwardOutput, backOutput, report, reportText, reportOutput, clear};
+ghost use Rattle.session.specs.Session.{load, propose, find, convert, convertOutput, begin, feed, feedOutput, end, report, reportText, reportOutput, clear};
 
-// A new session: empty, without records.
+// A new session: empty, without records and without an open table.
 #[no_mangle]
 pub extern "C" fn yokebean_session_new() -> SessionValue
     ensures { λ r. ⌜ r ≡ newValue ⌝ }
 {
-    SessionValue {
+    let nothing = HeldValue {
         state: 0,
         p: 0,
         n: 0,
@@ -33,15 +39,21 @@ pub extern "C" fn yokebean_session_new() -> SessionValue
         t2: [0; 16],
         s: [0; 16],
         r: [0; 16],
+    };
+    SessionValue {
+        held: nothing,
         records: 0,
         ledger: [RecordValue {
             direction: 0,
             residues: 0,
         }; 512],
+        table: 0,
+        fed: 0,
+        waiting: nothing,
     }
 }
 
-// Empty to loaded: 0, or 23, 1 to 4.
+// Empty to loaded: 0, or 23, 1 to 4. This call, propose and find act on the waiting session while a table is open.
 #[no_mangle]
 pub extern "C" fn yokebean_session_load(
     session: SessionValue,
@@ -52,9 +64,9 @@ pub extern "C" fn yokebean_session_load(
 ) -> StepValue
     ensures { λ r. ⌜ r ≡ stepOf session (load (sessionOf session) p n (now (t1 .entry)) (now (t2 .entry))) ⌝ }
 {
-    let held = held_of(session);
-    let valid = is_valid_value(session);
-    held_answers(session, valid, held_if(valid, held).load(p, n, t1, t2))
+    let x = counted_value(session);
+    let found = x.work;
+    holding(session, x, load_held(addressed(found), p, n, t1, t2))
 }
 
 // Loaded to paired, if the checker accepts: 0, or 21, 24, 3, 4, 6, 7, 8.
@@ -66,9 +78,9 @@ pub extern "C" fn yokebean_session_propose(
 ) -> StepValue
     ensures { λ k. ⌜ k ≡ stepOf session (propose (sessionOf session) (now (s .entry)) (now (r .entry))) ⌝ }
 {
-    let held = held_of(session);
-    let valid = is_valid_value(session);
-    held_answers(session, valid, held_if(valid, held).propose(s, r))
+    let x = counted_value(session);
+    let found = x.work;
+    holding(session, x, propose_held(addressed(found), s, r))
 }
 
 // Loaded to paired, with the finder's pair: 0, or 21, 24, 5, 6, 7.
@@ -76,12 +88,12 @@ pub extern "C" fn yokebean_session_propose(
 pub extern "C" fn yokebean_session_find(session: SessionValue) -> StepValue
     ensures { λ r. ⌜ r ≡ stepOf session (find (sessionOf session)) ⌝ }
 {
-    let held = held_of(session);
-    let valid = is_valid_value(session);
-    held_answers(session, valid, held_if(valid, held).find())
+    let x = counted_value(session);
+    let found = x.work;
+    holding(session, x, find_held(addressed(found)))
 }
 
-// out := the images of a table of residues modulo T1, by S, modulo T2: 0, or 21, 22, 9, 10, 4, 25.
+// out := the images of a table of residues modulo T1, by S, modulo T2: 0, or 21, 22, 27, 9, 10, 4, 25.
 #[no_mangle]
 pub extern "C" fn yokebean_session_forward(
     session: SessionValue,
@@ -89,19 +101,17 @@ pub extern "C" fn yokebean_session_forward(
     out: &mut [Word],
 ) -> StepValue
     ensures { λ r. ⌜ r ≡ stepOf session (convert Forward (sessionOf session) (now (table .entry)) (now (out .entry))) ⌝ }
-    ensures { λ r. ⌜ now (out .exit) ≡ forwardOutput (sessionOf session) (now (table .entry)) (now (out .entry)) ⌝ }
+    ensures { λ r. ⌜ now (out .exit) ≡ convertOutput Forward (sessionOf session) (now (table .entry)) (now (out .entry)) ⌝ }
 {
-    let held = held_of(session);
-    let valid = is_valid_value(session);
-    let x = held_if(valid, held);
-    conversion_answers(
+    let x = counted_value(session);
+    let found = x.work;
+    record_answers(
         session,
-        Direction::Forward,
-        forward_by(x, session.records, table, out),
+        convert_table(Direction::Forward, found, x.count, table, out),
     )
 }
 
-// out := the images of a table of residues modulo T2, by R, modulo T1: 0, or 21, 22, 9, 10, 4, 25.
+// out := the images of a table of residues modulo T2, by R, modulo T1: 0, or 21, 22, 27, 9, 10, 4, 25.
 #[no_mangle]
 pub extern "C" fn yokebean_session_back(
     session: SessionValue,
@@ -109,16 +119,67 @@ pub extern "C" fn yokebean_session_back(
     out: &mut [Word],
 ) -> StepValue
     ensures { λ r. ⌜ r ≡ stepOf session (convert Back (sessionOf session) (now (table .entry)) (now (out .entry))) ⌝ }
-    ensures { λ r. ⌜ now (out .exit) ≡ backOutput (sessionOf session) (now (table .entry)) (now (out .entry)) ⌝ }
+    ensures { λ r. ⌜ now (out .exit) ≡ convertOutput Back (sessionOf session) (now (table .entry)) (now (out .entry)) ⌝ }
 {
-    let held = held_of(session);
-    let valid = is_valid_value(session);
-    let x = held_if(valid, held);
-    conversion_answers(
+    let x = counted_value(session);
+    let found = x.work;
+    record_answers(
         session,
-        Direction::Back,
-        back_by(x, session.records, table, out),
+        convert_table(Direction::Back, found, x.count, table, out),
     )
+}
+
+// Opens a table of residues modulo T1, for images by S modulo T2: 0, or 21, 22, 27, 25.
+#[no_mangle]
+pub extern "C" fn yokebean_session_begin_forward(session: SessionValue) -> StepValue
+    ensures { λ r. ⌜ r ≡ stepOf session (begin Forward (sessionOf session)) ⌝ }
+{
+    let x = counted_value(session);
+    let found = x.work;
+    work_answers(
+        session,
+        x.valid,
+        begin_table(Direction::Forward, found, x.count),
+    )
+}
+
+// Opens a table of residues modulo T2, for images by R modulo T1: 0, or 21, 22, 27, 25.
+#[no_mangle]
+pub extern "C" fn yokebean_session_begin_back(session: SessionValue) -> StepValue
+    ensures { λ r. ⌜ r ≡ stepOf session (begin Back (sessionOf session)) ⌝ }
+{
+    let x = counted_value(session);
+    let found = x.work;
+    work_answers(
+        session,
+        x.valid,
+        begin_table(Direction::Back, found, x.count),
+    )
+}
+
+// out := the images of a part of the open table, by the pair with which it began: 0, or 26, 9, 10, 4.
+#[no_mangle]
+pub extern "C" fn yokebean_session_feed(
+    session: SessionValue,
+    table: &[Word],
+    out: &mut [Word],
+) -> StepValue
+    ensures { λ r. ⌜ r ≡ stepOf session (feed (sessionOf session) (now (table .entry)) (now (out .entry))) ⌝ }
+    ensures { λ r. ⌜ now (out .exit) ≡ feedOutput (sessionOf session) (now (table .entry)) (now (out .entry)) ⌝ }
+{
+    let x = counted_value(session);
+    let found = x.work;
+    work_answers(session, x.valid, feed_table(found, table, out))
+}
+
+// Closes the open table, with one record of all its residues; a paired waiting session becomes the current one: 0, or 26.
+#[no_mangle]
+pub extern "C" fn yokebean_session_end(session: SessionValue) -> StepValue
+    ensures { λ r. ⌜ r ≡ stepOf session (end (sessionOf session)) ⌝ }
+{
+    let x = counted_value(session);
+    let found = x.work;
+    record_answers(session, end_table(found))
 }
 
 // How long the report is.
@@ -142,15 +203,16 @@ pub extern "C" fn yokebean_session_report(session: SessionValue, out: &mut [u8])
     }
 }
 
-// Any state to empty, with the records: always 0.
+// Any state to empty, without the open table and the waiting session, with the records: always 0.
 #[no_mangle]
 pub extern "C" fn yokebean_session_clear(session: SessionValue) -> StepValue
     ensures { λ r. ⌜ r ≡ stepOf session (clear (sessionOf session)) ⌝ }
 {
-    let held = Held::new();
-    let answer = HeldStep {
+    let x = counted_value(session);
+    let empty = Work::new();
+    let answer = WorkStep {
         number: 0,
-        held: held,
+        work: empty,
     };
-    held_answers(session, is_valid_value(session), answer)
+    work_answers(session, x.valid, answer)
 }

@@ -1,74 +1,89 @@
--- The calls over C: each goes by what the value counts as holding, and answers as the call of its session does.
---   load-gives, propose-gives, find-gives, clear-gives   the calls that change what is held
---   recordable, convert-gives, forward-gives, back-gives   the conversions
-use mathlib.Core.Path.{_≡_, refl, sym, ap, _∙_}
-use mathlib.Core.Bool.{Bool, true, false}
+-- The calls over C: each goes by what the value v counts as, and answers as the call of its session does. These are the laws of sessions, with the answer
+-- of a call as a value.
+--   load-gives, propose-gives, find-gives, convert-gives, begin-gives, feed-gives, end-gives, clear-gives, report-gives    the answers
+--   convert-fills, feed-fills                      what the lent list then holds
+--   held-counts-valid, open-over-pair              what the functions below these calls ask for
+--   convert-recordable, end-recordable             where a record is added the value counts as itself and has room
+use mathlib.Core.Path.{_≡_, ap, _∙_}
+use mathlib.Core.Bool.{true}
 use mathlib.Core.List.{List}
 use Prim.Native.Nat.{ℕ}
-use native.Mathlib.Omega.{arith}
-use Rattle.held.specs.Held as Held
-use Rattle.held.specs.Held.{view, t1Of, t2Of, sOf, rOf, newHeld}
+use Rattle.held.specs.Held.{validHeld}
 use Rattle.held.specs.declared.Held.{Held}
-use Rattle.held.specs.declared.HeldStep.{HeldStep}
+use Rattle.pairing.specs.Pairing as Pairing
+use Rattle.pairing.specs.declared.HeldStep.{HeldStep}
 use Rattle.ledger.specs.declared.Direction.{Direction}
-use Rattle.session.specs.Session.{heldIf, answer, stepWith, load, propose, find, recorded, convert, forwardOutput, backOutput, clear}
-use Rattle.conversion.specs.Conversion.{convertFrom}
-use Rattle.conversion.specs.ByHeld.{convertedFrom, outputFrom}
-use Rattle.conversion.specs.declared.convert.Converted.{Converted}
-use Rattle.session.proofs.Answer.{load-by, propose-by, find-by, clear-answers}
-use Rattle.session.proofs.Conversion as Conversion
-use Rattle.session.proofs.Conversion.{converts}
-use Rattle.conversion.proofs.Numbers.{number-empty}
-use Rattle.session.proofs.CountsAs.{Counts}
-use Rattle.cvalue.specs.Inner.{validValue, Recordable}
-use Rattle.cvalue.specs.Values.{heldOf, sessionOf, stepOf}
+use Rattle.work.specs.Work.{newWork, addressed}
+use Rattle.work.specs.declared.RecordStep.{RecordStep}
+use Rattle.work.specs.declared.Work.{Work}
+use Rattle.work.specs.declared.WorkStep.{WorkStep}
+use Rattle.work.specs.declared.counted.CountsAs.{CountsAs}
+use Rattle.conversion.specs.Conversion as Conversion
+use Rattle.running.specs.OverPair.{OverPair}
+use Rattle.running.specs.Running as Running
+use Rattle.session.specs.Session.{stepWith, holding, load, propose, find, recordWith, convert, convertOutput, begin, feed, feedOutput, end, report, clear}
+use Rattle.session.specs.declared.Session.{Session}
+use Rattle.session.specs.declared.Step.{Step}
+use Rattle.session.proofs.Calls as Calls
+use Rattle.cvalue.specs.Inner.{countsValue, Recordable}
+use Rattle.cvalue.specs.Values.{sessionOf, stepOf, givenBack}
 use Rattle.cvalue.specs.declared.SessionValue.{SessionValue}
 use Rattle.cvalue.specs.declared.StepValue.{StepValue}
-use Rattle.cvalue.proofs.Counting.{own-session, session-counts}
+use Rattle.cvalue.proofs.Counting.{value-work, value-count, recordable}
 
-module _ (v : SessionValue) (b : Bool) (e : b ≡ validValue v) (h : Held) (f : h ≡ heldOf v) (z : Held) (g : z ≡ heldIf b h) where
-  value-counts : Counts (sessionOf v) z (v .records)
-  value-counts = session-counts v b e z (g ∙ ap (heldIf b) f)
+module _ (v : SessionValue) (c : CountsAs) (e : c ≡ countsValue v) where
+  pub held-counts-valid : validHeld (c .work .held) ≡ true
+  held-counts-valid = Calls.held-valid (sessionOf v) (c .work) (value-work v c e)
 
-  module _ (y : HeldStep) (r : StepValue) (a : r ≡ stepOf v (stepWith (sessionOf v) y)) where
-    pub load-gives : (p n : ℕ) (t1 t2 : List ℕ) → y ≡ Held.load z p n t1 t2 → r ≡ stepOf v (load (sessionOf v) p n t1 t2)
-    load-gives p n t1 t2 i = a ∙ ap (stepOf v) (load-by value-counts y p n t1 t2 i)
+  pub open-over-pair : OverPair (c .work)
+  open-over-pair = Calls.over-pair (sessionOf v) (c .work) (value-work v c e)
 
-    pub propose-gives : (s u : List ℕ) → y ≡ Held.propose z s u → r ≡ stepOf v (propose (sessionOf v) s u)
-    propose-gives s u i = a ∙ ap (stepOf v) (propose-by value-counts y s u i)
+  module _ (y : HeldStep) (r : StepValue) (a : r ≡ stepOf v (holding (sessionOf v) y)) (z : Held) (g : z ≡ addressed (c .work)) where
+    pub load-gives : (p n : ℕ) (t1 t2 : List ℕ) → y ≡ Pairing.load z p n t1 t2 → r ≡ stepOf v (load (sessionOf v) p n t1 t2)
+    load-gives = Calls.load-answers (stepOf v) (sessionOf v) r (c .work) (value-work v c e) z g y a
 
-    pub find-gives : y ≡ Held.find z → r ≡ stepOf v (find (sessionOf v))
-    find-gives i = a ∙ ap (stepOf v) (find-by value-counts y i)
+    pub propose-gives : (s t : List ℕ) → y ≡ Pairing.propose z s t → r ≡ stepOf v (propose (sessionOf v) s t)
+    propose-gives = Calls.propose-answers (stepOf v) (sessionOf v) r (c .work) (value-work v c e) z g y a
+
+    pub find-gives : y ≡ Pairing.find z → r ≡ stepOf v (find (sessionOf v))
+    find-gives = Calls.find-answers (stepOf v) (sessionOf v) r (c .work) (value-work v c e) z g y a
+
+  pub begin-gives : (d : Direction) (y : WorkStep) → y ≡ Running.begin d (c .work) (c .count) → (r : StepValue) → r ≡ stepOf v (stepWith (sessionOf v) y)
+      → r ≡ stepOf v (begin d (sessionOf v))
+  begin-gives d y h r = Calls.begin-answers (stepOf v) (sessionOf v) r (c .work) (value-work v c e) (c .count) (value-count v c e) d y h
 
   module _ (table out : List ℕ) where
-    module _ (y : Converted) (i : y ≡ convertedFrom z (v .records) table out) where
-      itself : y .number ≡ 0 → validValue v ≡ true
-      unfolding convertedFrom
-      itself n = go b e g
-        where
-          go : (b : Bool) → b ≡ validValue v → z ≡ heldIf b h → validValue v ≡ true
-          go true e g = sym e
-          go false e g =
-              absurd (omega (arith, n, ap (λ w. w .number) i, ap (λ x. convertFrom (view x) (v .records) table out) g, number-empty (v .records) table out))
+    pub feed-gives : (y : WorkStep) → y ≡ Running.feed (c .work) table out → (r : StepValue) → r ≡ stepOf v (stepWith (sessionOf v) y)
+        → r ≡ stepOf v (feed (sessionOf v) table out)
+    feed-gives y h r = Calls.feed-answers (stepOf v) (sessionOf v) r (c .work) (value-work v c e) table out y h
 
-      pub recordable : Recordable v (y .number)
-      recordable =
-          record {
-            itself = itself;
-            free = λ n. omega (arith, Conversion.room-left value-counts table out y i .free n, ap (λ x. x .ledger .count) (own-session v (itself n)));
-          }
+    pub feed-fills : (after : List ℕ) → after ≡ Running.feedOutput (c .work) table out → after ≡ feedOutput (sessionOf v) table out
+    feed-fills = Calls.feed-writes (sessionOf v) (c .work) (value-work v c e) table out
 
-      pub convert-gives : (d : Direction) (r : StepValue) → r ≡ stepOf v (answer (y .number) (recorded (sessionOf v) d (y .residues)) (sessionOf v))
-          → r ≡ stepOf v (convert d (sessionOf v) table out)
-      convert-gives d r a = a ∙ ap (stepOf v) (converts value-counts table out d y i _ refl)
+    module _ (d : Direction) where
+      pub convert-fills : (after : List ℕ) → after ≡ Conversion.convertOutput d (c .work) (c .count) table out → after ≡ convertOutput d (sessionOf v) table out
+      convert-fills = Calls.convert-writes (sessionOf v) (c .work) (value-work v c e) (c .count) (value-count v c e) d table out
 
-    module _ (after : List ℕ) where
-      pub forward-gives : after ≡ outputFrom z (v .records) (t2Of z) (sOf z) table out → after ≡ forwardOutput (sessionOf v) table out
-      forward-gives = Conversion.forward-writes value-counts table out after
+      module _ (y : RecordStep) (h : y ≡ Conversion.convert d (c .work) (c .count) table out) where
+        pub convert-recordable : Recordable v (y .number)
+        convert-recordable =
+            recordable v (y .number) (Calls.convert-records (sessionOf v) (c .work) (value-work v c e) (c .count) (value-count v c e) d table out y h)
 
-      pub back-gives : after ≡ outputFrom z (v .records) (t1Of z) (rOf z) table out → after ≡ backOutput (sessionOf v) table out
-      back-gives = Conversion.back-writes value-counts table out after
+        pub convert-gives : (r : StepValue) → r ≡ stepOf v (recordWith (sessionOf v) y) → r ≡ stepOf v (convert d (sessionOf v) table out)
+        convert-gives r = Calls.convert-answers (stepOf v) (sessionOf v) r (c .work) (value-work v c e) (c .count) (value-count v c e) d table out y h
 
-pub clear-gives : (v : SessionValue) (h : Held) (r : StepValue) → h ≡ newHeld → r ≡ stepOf v (stepWith (sessionOf v) (record { number = 0; held = h }))
+  module _ (y : RecordStep) (h : y ≡ Running.end (c .work)) where
+    pub end-recordable : Recordable v (y .number)
+    end-recordable = recordable v (y .number) (Calls.end-records (sessionOf v) (c .work) (value-work v c e) y h)
+
+    pub end-gives : (r : StepValue) → r ≡ stepOf v (recordWith (sessionOf v) y) → r ≡ stepOf v (end (sessionOf v))
+    end-gives r = Calls.end-answers (stepOf v) (sessionOf v) r (c .work) (value-work v c e) y h
+
+pub clear-gives : (v : SessionValue) (w : Work) → w ≡ newWork → (r : StepValue) → r ≡ stepOf v (stepWith (sessionOf v) (record { number = 0; work = w }))
     → r ≡ stepOf v (clear (sessionOf v))
-clear-gives v h r e a = a ∙ ap (stepOf v) (clear-answers (sessionOf v) h _ e refl)
+clear-gives v w f r = Calls.clear-answers (stepOf v) (sessionOf v) r w f
+
+pub report-gives : (v : SessionValue) (x : Session) → x ≡ sessionOf v → (out : List ℕ) (y : Step) → y ≡ report x out
+    → record { number = y .number; session = v } ≡ givenBack v (report (sessionOf v) out)
+unfolding givenBack
+report-gives v x e out y g = ap (givenBack v) (g ∙ ap (λ x. report x out) e)

@@ -1,78 +1,105 @@
--- The session that a value counts as: its own where it is valid, else a new one.
---   counted-value     what the session of a value counts as
---   own-session       the session of a valid value
---   session-counts    what it counts as holding, and how many of its records count
-use mathlib.Core.Path.{_≡_, refl, sym, ap, subst, _∙_}
+-- What a value counts as: its own session, as far as it is looked at, where it is valid, else a new one.
+--   few-records, have-directions           what it says of a value that it is made; valid-made: a valid one is made
+--   counted-ledger, counted-new            what its session counts as, by whether it is valid
+--   value-valid, value-work, value-count   what the code works out
+--   recordable                             where a record is added to its session, the value counts as itself and has room
+use mathlib.Core.Path.{_≡_, refl, sym, ap, _∙_}
 use mathlib.Core.Bool.{Bool, true, false, _&&_, and-eq-true-iff}
-use Prim.Native.Nat.{_≤_}
+use Prim.Native.Nat.{ℕ, _≤_}
+use native.Mathlib.Omega.{arith}
 use borrow.Author.Tests.{leb-true}
 use lib.Dec.{leb}
 use lib.ListN.{take}
 use Rattle.algebra.specs.Lists.{all}
-use Rattle.held.specs.Held.{validHeld}
-use Rattle.held.specs.declared.Held.{Held}
+use Rattle.held.specs.Held.{view}
 use Rattle.ledger.specs.Ledger.{mostRecords}
-use Rattle.session.specs.Session.{newSession, validWith, validSession, orNew, counted, heldIf}
+use Rattle.work.specs.Counted.{countedIf}
+use Rattle.work.specs.Work.{isPaired, validWork, looked}
+use Rattle.work.specs.declared.counted.CountsAs.{CountsAs}
+use Rattle.session.specs.Session.{newSession, validSession, orNew, counted}
 use Rattle.session.specs.declared.Session.{Session}
-use Rattle.session.proofs.CountsAs.{Counts, as-itself, as-new, held-valid}
-use Rattle.cvalue.specs.Inner.{validValue}
-use Rattle.cvalue.specs.Values.{hasDirection, made, heldOf, ledgerOf, ifMade, sessionOf}
+use Rattle.session.proofs.Calls.{Recording}
+use Rattle.session.proofs.CountsAs.{new-unpaired}
+use Rattle.cvalue.specs.Inner.{validValue, countsValue, Recordable}
+use Rattle.cvalue.specs.Values.{tableMade, hasDirection, made, workOf, ledgerOf, ifMade, sessionOf}
 use Rattle.cvalue.specs.declared.SessionValue.{SessionValue}
 
 module _ (v : SessionValue) where
-  abbrev pub own : Session
-  own = record { held = heldOf v; ledger = ledgerOf v }
+  module _ (h : made v ≡ true) where
+    parts : (leb (v .held .state) 2 && tableMade (v .table) (v .waiting .state) && leb (v .records) mostRecords ≡ true)
+        × (all hasDirection (take (v .records) (v .ledger)) ≡ true)
+    unfolding made
+    parts =
+        and-eq-true-iff
+        (leb (v .held .state) 2 && tableMade (v .table) (v .waiting .state) && leb (v .records) mostRecords)
+        (all hasDirection (take (v .records) (v .ledger)))
+        .0
+        h
 
-  pub counted-value : counted (sessionOf v) ≡ ifMade (validValue v) own
-  unfolding counted sessionOf validValue
+    pub few-records : v .records ≤ mostRecords
+    few-records =
+        leb-true (v .records) mostRecords
+        (and-eq-true-iff (leb (v .held .state) 2 && tableMade (v .table) (v .waiting .state)) (leb (v .records) mostRecords) .0 (parts .0) .1)
+
+    pub have-directions : all hasDirection (take (v .records) (v .ledger)) ≡ true
+    have-directions = parts .1
+
+  pub valid-made : validValue v ≡ true → made v ≡ true
+  unfolding validValue
+  valid-made h = and-eq-true-iff (made v) (validWork (workOf v) (v .records)) .0 h .0
+
+  abbrev own : Session
+  own = record { work = workOf v; ledger = ledgerOf v }
+
+  counted-value : counted (sessionOf v) ≡ orNew (validValue v) own
+  unfolding counted sessionOf validValue looked
   counted-value = go (made v)
     where
       new : (b : Bool) → orNew b newSession ≡ newSession
       new true = refl
       new false = refl
 
-      same : (b : Bool) → orNew b own ≡ ifMade b own
-      same true = refl
-      same false = refl
-
-      go : (m : Bool) → orNew (validSession (ifMade m own)) (ifMade m own) ≡ ifMade (m && validWith (heldOf v) (v .records)) own
-      go true = same (validWith (heldOf v) (v .records))
+      go : (m : Bool) → orNew (validSession (ifMade m own)) (ifMade m own) ≡ orNew (m && validWork (workOf v) (v .records)) own
+      go true = refl
       go false = new (validSession newSession)
 
-  module _ (h : validValue v ≡ true) where
-    parts : (made v ≡ true) × (validWith (heldOf v) (v .records) ≡ true)
-    unfolding validValue
-    parts = and-eq-true-iff (made v) (validWith (heldOf v) (v .records)) .0 h
+  pub counted-ledger : validValue v ≡ true → counted (sessionOf v) .ledger ≡ ledgerOf v
+  counted-ledger h = ap (λ x. x .ledger) (counted-value ∙ ap (λ b. orNew b own) h)
 
-    made-parts : (v .state ≤ 2) × (v .records ≤ mostRecords) × (all hasDirection (take (v .records) (v .ledger)) ≡ true)
-    unfolding made
-    made-parts =
-        let (front, directions) = and-eq-true-iff (leb (v .state) 2 && leb (v .records) mostRecords) (all hasDirection (take (v .records) (v .ledger))) .0 (parts .0) in
-        let (state, records) = and-eq-true-iff (leb (v .state) 2) (leb (v .records) mostRecords) .0 front in
-        (leb-true (v .state) 2 state, leb-true (v .records) mostRecords records, directions)
+  pub counted-new : validValue v ≡ false → counted (sessionOf v) ≡ newSession
+  counted-new h = counted-value ∙ ap (λ b. orNew b own) h
 
-    pub state-low : v .state ≤ 2
-    state-low = made-parts .0
+  module _ (c : CountsAs) (e : c ≡ countsValue v) where
+    counts : c ≡ record { valid = validValue v; work = counted (sessionOf v) .work; count = counted (sessionOf v) .ledger .count }
+    unfolding countsValue
+    counts = e ∙ go (validValue v) ∙ ap (λ x. record { valid = validValue v; work = x .work; count = x .ledger .count }) (sym counted-value)
+      where
+        go : (b : Bool) → countedIf b (workOf v) (v .records) ≡ record { valid = b; work = orNew b own .work; count = orNew b own .ledger .count }
+        go true = refl
+        go false = refl
 
-    pub records-low : v .records ≤ mostRecords
-    records-low = made-parts .1
+    pub value-valid : c .valid ≡ validValue v
+    value-valid = ap (λ x. x .valid) counts
 
-    pub have-directions : all hasDirection (take (v .records) (v .ledger)) ≡ true
-    have-directions = made-parts .2
+    pub value-work : c .work ≡ counted (sessionOf v) .work
+    value-work = ap (λ x. x .work) counts
 
-    pub own-session : sessionOf v ≡ own
-    unfolding sessionOf
-    own-session = rw (parts .0)
+    pub value-count : c .count ≡ counted (sessionOf v) .ledger .count
+    value-count = ap (λ x. x .count) counts
 
-    own-valid : validSession own ≡ true
-    own-valid = parts .1
-
-  pub session-counts : (b : Bool) → b ≡ validValue v → (z : Held) → z ≡ heldIf b (heldOf v) → Counts (sessionOf v) z (v .records)
-  session-counts b e z f = subst (λ w. Counts (sessionOf v) w (v .records)) (sym f) (go b e)
+  recording-itself : Recording (sessionOf v) → validValue v ≡ true
+  recording-itself r = go (validValue v) refl
     where
-      go : (b : Bool) → b ≡ validValue v → Counts (sessionOf v) (heldIf b (heldOf v)) (v .records)
-      go true e = subst (λ x. Counts x (heldOf v) (v .records)) (sym (own-session (sym e))) (as-itself (own-valid (sym e)))
-      go false e = as-new (counted-value ∙ ap (λ b. ifMade b own) (sym e))
+      go : (b : Bool) → validValue v ≡ b → b ≡ true
+      go true e = refl
+      go false e = sym new-unpaired ∙ ap (λ x. isPaired (view (x .work .held))) (sym (counted-new e)) ∙ r .paired
 
-  pub held-if-valid : (b : Bool) → b ≡ validValue v → (x z : Held) → x ≡ heldOf v → z ≡ heldIf b x → validHeld z ≡ true
-  held-if-valid b e x z f g = held-valid (session-counts b e z (g ∙ ap (heldIf b) f))
+  pub recordable : (k : ℕ) → (k ≡ 0 → Recording (sessionOf v)) → Recordable v k
+  recordable k f =
+      record {
+        itself = λ z. recording-itself (f z);
+        free = λ z.
+            let valid = recording-itself (f z) in
+            let other : v .records ≡ mostRecords → ⊥ = λ e. f z .not-full (ap (λ l. l .count) (counted-ledger valid) ∙ e) in
+            omega (arith, few-records (valid-made valid), other);
+      }

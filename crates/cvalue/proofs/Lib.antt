@@ -1,10 +1,6 @@
--- Sessions as C has them: the images of the first elements of an array (Mapped), records (RecordLaws), sessions by the tests of the code (SessionLaws), the
--- session that a value counts as (Counting), answers as values (Answers), the calls (Calls), and lists of
--- calls (Theorem).
-mod Mapped
-mod RecordLaws
-pub mod SessionLaws
+-- Sessions as C has them: the images of the first elements of an array (Mapped), what a value counts as (Counting), records in its array (Placed), and
+-- the calls (Calls).
+pub mod Mapped
 pub mod Counting
-mod Answers
+mod Placed
 pub mod Calls
-pub mod Theorem

@@ -1,8 +1,14 @@
-// Sessions as C has them: values with numbers for the state and for directions, made of sessions and taken for them.
+// Sessions as C has them: values with numbers for states, directions and the open table, made of sessions and taken for them.
 //   records    records of the ledger
-//   sessions   sessions and their answers
-pub mod records;
+//   holdings   what is held
+//   tables     the open table
+//   sessions   the session of a value, and what it counts as
+//   answers    the answers of calls
+pub mod answers;
+mod holdings;
+mod records;
 pub mod sessions;
+mod tables;
 
 use array::Word;
 
@@ -13,9 +19,9 @@ pub struct RecordValue {
     pub residues: u32,
 }
 
-// A session: state 0 is empty, 1 loaded (p, n, T1, T2), 2 paired (also S, R); the first `records` of the ledger count.
+// What is held: state 0 is empty, 1 loaded (p, n, T1, T2), 2 paired (also S, R).
 #[repr(C)]
-pub struct SessionValue {
+pub struct HeldValue {
     pub state: u32,
     pub p: u32,
     pub n: u32,
@@ -23,8 +29,19 @@ pub struct SessionValue {
     pub t2: [Word; 16],
     pub s: [Word; 16],
     pub r: [Word; 16],
+}
+
+// A session: what it holds; the ledger, of which the first `records` count; the table, 0 none, 1 open forward, 2 open back, with the residues fed to it
+// so far; and what the waiting session holds. C's header has the fields of `held` as fields of its own, which lie in the same places, and calls the
+// table `open`, which is a word of antt.
+#[repr(C)]
+pub struct SessionValue {
+    pub held: HeldValue,
     pub records: u32,
     pub ledger: [RecordValue; 512],
+    pub table: u32,
+    pub fed: u32,
+    pub waiting: HeldValue,
 }
 
 // A session call's answer: the number and the next session; refused, the session that was taken.

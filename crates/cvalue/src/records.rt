@@ -42,12 +42,13 @@ fn record_of(v: RecordValue) -> Record
 }
 
 // The value of a record.
-pub fn record_value(direction: Direction, residues: u32) -> RecordValue
-    ensures { λ r. ⌜ r ≡ recordValue (record { direction = direction; residues = residues }) ⌝ }
+pub fn record_value(entry: Record) -> RecordValue
+    ensures { λ r. ⌜ r ≡ recordValue entry ⌝ }
 {
+    let direction = entry.direction;
     RecordValue {
         direction: direction_number(direction),
-        residues: residues,
+        residues: entry.residues,
     }
 }
 

@@ -1,67 +1,66 @@
--- What a session counts as: itself where it is valid, else a new one.
---   Counts x z k    z is what x counts as holding, and, where x counts as itself, k records of it count
-use mathlib.Core.Path.{_≡_, refl, sym, ap, subst}
-use mathlib.Core.Bool.{Bool, true, false, and-eq-true-iff}
-use Prim.Native.Nat.{ℕ, _≤_, _<_}
+-- What a session counts as: itself, as far as it is looked at, where it is valid, else a new one.
+--   valid-is, work-is, count-is   what the code works out of a session's value and of how many records count
+--   counted-itself, counted-new   by whether the session is valid
+--   counted-parts                 what a session counts as is valid
+--   paired-itself                 a session that counts as paired counts as itself
+use mathlib.Core.Path.{_≡_, refl, sym, ap, _∙_}
+use mathlib.Core.Bool.{Bool, true, false}
+use Prim.Native.Nat.{ℕ}
 use native.Mathlib.Omega.{arith}
-use lib.Dec.{leb}
-use borrow.Author.Tests.{le-leb, lt-leb, leb-true}
-use Rattle.held.specs.Held.{validAs, validHeld, newHeld}
-use Rattle.held.specs.declared.Held.{Held}
-use Rattle.ledger.specs.Ledger.{mostRecords}
-use Rattle.session.specs.Session.{newSession, validWith, validSession, orNew, counted, heldIf}
+use Rattle.held.specs.Held.{view, viewAs, validHeld, validAs, newHeld}
+use Rattle.work.specs.Work.{isPaired, looked}
+use Rattle.work.specs.Counted.{countedAs, countedIf}
+use Rattle.work.specs.declared.counted.CountsAs.{CountsAs}
+use Rattle.work.proofs.Valid.{ValidParts, valid-parts, looked-parts}
+use Rattle.session.specs.Session.{newSession, validSession, orNew, counted}
 use Rattle.session.specs.declared.Session.{Session}
 
-module _ (h : Held) (k : ℕ) where
-  pub past-limit : mostRecords < k → false ≡ validWith h k
-  unfolding validWith
-  past-limit l = rw (lt-leb k mostRecords l)
+new-parts : ValidParts (newSession .work) (newSession .ledger .count)
+unfolding validHeld validAs
+new-parts = record { few = omega arith; held-valid = refl; open-over = λ o. absurd (let z : _≡_ {A = ℕ} 0 1 = cc in omega arith) }
 
-  pub within-limit : k ≤ mostRecords → (b : Bool) → b ≡ validHeld h → b ≡ validWith h k
-  unfolding validWith
-  within-limit l b e = rw (le-leb k mostRecords l) e
-
-  pub valid-parts : validWith h k ≡ true → (k ≤ mostRecords) × (validHeld h ≡ true)
-  unfolding validWith
-  valid-parts e =
-      let (few, held) = and-eq-true-iff (leb k mostRecords) (validHeld h) .0 e in
-      (leb-true k mostRecords few, held)
+pub new-unpaired : isPaired (view newHeld) ≡ false
+unfolding isPaired view viewAs validHeld validAs
+new-unpaired = refl
 
 module _ (x : Session) where
-  pub counts-itself : (b : Bool) → b ≡ validSession x → b ≡ true → x ≡ counted x
-  unfolding counted
-  counts-itself b e h = rw (← e, h)
+  same-parts : (b : Bool) → countedIf b (x .work) (x .ledger .count) ≡ record { valid = b; work = orNew b x .work; count = orNew b x .ledger .count }
+  same-parts true = refl
+  same-parts false = refl
 
-  pub counts-new : (b : Bool) → b ≡ validSession x → b ≡ false → (y : Session) → y ≡ newSession → y ≡ counted x
-  unfolding counted
-  counts-new b e h y f = rw (← e, h) f
+  parts-are : countedAs (x .work) (x .ledger .count) ≡ record { valid = validSession x; work = counted x .work; count = counted x .ledger .count }
+  unfolding countedAs counted
+  parts-are = same-parts (validSession x)
 
-  pub counted-few : counted x .ledger .count ≤ mostRecords
+  module _ (c : CountsAs) (e : c ≡ countedAs (x .work) (x .ledger .count)) where
+    pub valid-is : c .valid ≡ validSession x
+    valid-is = ap (λ y. y .valid) (e ∙ parts-are)
+
+    pub work-is : c .work ≡ counted x .work
+    work-is = ap (λ y. y .work) (e ∙ parts-are)
+
+    pub count-is : c .count ≡ counted x .ledger .count
+    count-is = ap (λ y. y .count) (e ∙ parts-are)
+
+  pub counted-itself : validSession x ≡ true → counted x ≡ record { work = looked (x .work); ledger = x .ledger }
   unfolding counted
-  counted-few = go (validSession x) refl
+  counted-itself h = rw h
+
+  pub counted-new : validSession x ≡ false → counted x ≡ newSession
+  unfolding counted
+  counted-new h = rw h
+
+  pub counted-parts : ValidParts (counted x .work) (counted x .ledger .count)
+  unfolding counted
+  counted-parts = go (validSession x) refl
     where
-      go : (b : Bool) → validSession x ≡ b → orNew b x .ledger .count ≤ mostRecords
-      go true e = valid-parts (x .held) (x .ledger .count) e .0
-      go false e = omega arith
+      go : (b : Bool) → validSession x ≡ b → ValidParts (orNew b x .work) (orNew b x .ledger .count)
+      go true e = looked-parts (x .work) (x .ledger .count) (valid-parts (x .work) (x .ledger .count) e)
+      go false e = new-parts
 
-pub data Counts (x : Session) : Held → ℕ → Type 0 where
-  as-itself : validSession x ≡ true → Counts x (x .held) (x .ledger .count)
-  as-new : {k : ℕ} → counted x ≡ newSession → Counts x newHeld k
-
-pub counts : (x : Session) (b : Bool) → b ≡ validSession x → (z : Held) → z ≡ heldIf b (x .held) → Counts x z (x .ledger .count)
-counts x b e z f = subst (λ w. Counts x w (x .ledger .count)) (sym f) (go b e)
-  where
-    go : (b : Bool) → b ≡ validSession x → Counts x (heldIf b (x .held)) (x .ledger .count)
-    go true e = as-itself (sym e)
-    go false e = as-new (sym (counts-new x (validSession x) refl (sym e) newSession refl))
-
-pub held-valid : {x : Session} {z : Held} {k : ℕ} → Counts x z k → validHeld z ≡ true
-held-valid {x} (as-itself h) = valid-parts (x .held) (x .ledger .count) h .1
-held-valid (as-new h) = unfold validHeld validAs in refl
-
-pub counts-held : {x : Session} {z : Held} {k : ℕ} → Counts x z k → z ≡ counted x .held
-counts-held {x} (as-itself h) = ap (λ y. y .held) (counts-itself x (validSession x) refl h)
-counts-held (as-new h) = sym (ap (λ y. y .held) h)
-
-pub held-if-valid : (x : Session) (b : Bool) → b ≡ validSession x → (z : Held) → z ≡ heldIf b (x .held) → validHeld z ≡ true
-held-if-valid x b e z f = held-valid (counts x b e z f)
+  pub paired-itself : isPaired (view (counted x .work .held)) ≡ true → validSession x ≡ true
+  paired-itself h = go (validSession x) refl
+    where
+      go : (b : Bool) → validSession x ≡ b → b ≡ true
+      go true e = refl
+      go false e = sym new-unpaired ∙ ap (λ y. isPaired (view (y .work .held))) (sym (counted-new e)) ∙ h

@@ -1,8 +1,5 @@
--- What is proved of sessions: what one counts as (CountsAs), answers (Answer), conversions (Conversion), reports (Reporting), tables that come back
--- (RoundTrip), and the theorems (Theorem).
+-- What is proved of sessions: what one counts as (CountsAs), answers (Answer), the calls (Calls) and reports (Reporting).
 pub mod CountsAs
 pub mod Answer
-pub mod Conversion
+pub mod Calls
 mod Reporting
-mod RoundTrip
-pub mod Theorem

@@ -1,4 +1,3 @@
--- The session: each call's answer, and what is proved of every list of calls.
+-- The session: each call's answer, and what the recording goes by.
 pub mod Session
 pub mod Room
-pub mod Theorem

@@ -1,24 +1,23 @@
-// The session: a value around what is held and the ledger (document 01, "The session"; document 02, S-2). The calls take a session and give the next
-// one; none requires anything.
-//   counted   what a session counts as
-//   forward   Session::forward and Session::back: tables of residues, each a record of the ledger
+// The session: a value around what is held, the open table, the waiting session and the ledger (document 01, "The session"; document 02, S-2 and
+// S-8). The calls take a session and give the next one; none requires anything. They go by what is held and by how many records count; the records
+// themselves, some four thousand bytes, are handed on only where they are needed.
+//   holding   Session::load, Session::propose and Session::find
+//   tables    Session::forward and Session::back; Session::begin, Session::feed and Session::end for a table in parts
 //   report    Session::report and Session::report_length: the ledger's text
-pub mod counted;
-mod forward;
+mod holding;
 mod report;
+mod tables;
 
-use crate::counted::held_if;
-use crate::counted::is_valid;
-use array::Word;
-use held::Held;
-use held::HeldStep;
 use ledger::Ledger;
+use work::Work;
+use work::WorkStep;
+use work::counted::counted;
 ghost use mathlib.Core.Path.{_≡_};
-ghost use Rattle.session.specs.Session.{newSession, validSession, stepWith, load as loadOf, propose as proposeOf, find as findOf, clear as clearOf};
+ghost use Rattle.session.specs.Session.{newSession, validSession, stepWith, clear as clearOf};
 
-// What a session holds is what a value of the crate held does; the ledger has the conversions that succeeded.
+// All but the ledger, and the ledger with the conversions that succeeded and the tables that were ended.
 pub struct Session {
-    pub held: Held,
+    pub work: Work,
     pub ledger: Ledger,
 }
 
@@ -40,16 +39,16 @@ impl Session {
     pub fn new() -> Session
         ensures { λ r. ⌜ r ≡ newSession ⌝ }
     {
-        let empty = Held::new();
+        let work = Work::new();
         let none = Ledger::new();
         Session {
-            held: empty,
+            work: work,
             ledger: none,
         }
     }
 
-    // The answer where what is held answers y: the session with the next value, or the session that was taken.
-    fn step_with(mut self, valid: bool, y: HeldStep) -> Step
+    // The answer of a call that changes all but the ledger: the next session, or the session that was taken.
+    fn step_with(self, valid: bool, y: WorkStep) -> Step
         requires { ⌜ valid ≡ validSession self ⌝ }
         ensures { λ r. ⌜ r ≡ stepWith self y ⌝ }
     {
@@ -59,63 +58,40 @@ impl Session {
                 session: self,
             };
         }
-        let held = y.held;
+        let work = y.work;
         if !valid {
-            let ledger = Ledger::new();
+            let none = Ledger::new();
             let made = Session {
-                held: held,
-                ledger: ledger,
+                work: work,
+                ledger: none,
             };
             return Step {
                 number: 0,
                 session: made,
             };
         }
-        self.held = held;
+        let ledger = self.ledger;
+        let next = Session {
+            work: work,
+            ledger: ledger,
+        };
         Step {
             number: 0,
-            session: self,
+            session: next,
         }
     }
 
-    // The session with two models: 23, 1 to 4.
-    pub fn load(self, p: u32, n: u32, t1: &[Word], t2: &[Word]) -> Step
-        ensures { λ r. ⌜ r ≡ loadOf self p n (now (t1 .entry)) (now (t2 .entry)) ⌝ }
-    {
-        let held = self.held;
-        let valid = is_valid(held, self.ledger.count);
-        self.step_with(valid, held_if(valid, held).load(p, n, t1, t2))
-    }
-
-    // The session with a pair that the checker accepts: 21, 24, 3, 4, 6, 7, 8.
-    pub fn propose(self, s: &[Word], r: &[Word]) -> Step
-        ensures { λ y. ⌜ y ≡ proposeOf self (now (s .entry)) (now (r .entry)) ⌝ }
-    {
-        let held = self.held;
-        let valid = is_valid(held, self.ledger.count);
-        self.step_with(valid, held_if(valid, held).propose(s, r))
-    }
-
-    // The session with the finder's pair: 21, 24, 5, 6, 7.
-    pub fn find(self) -> Step
-        ensures { λ y. ⌜ y ≡ findOf self ⌝ }
-    {
-        let held = self.held;
-        let valid = is_valid(held, self.ledger.count);
-        self.step_with(valid, held_if(valid, held).find())
-    }
-
-    // Any state to empty, with the records; it never refuses.
+    // Empty, and no table is open; with the records. It never refuses.
     pub fn clear(self) -> Step
         ensures { λ r. ⌜ r ≡ clearOf self ⌝ }
     {
-        let held = self.held;
-        let valid = is_valid(held, self.ledger.count);
-        let nothing = Held::new();
-        let answer = HeldStep {
+        let work = self.work;
+        let x = counted(work, self.ledger.count);
+        let empty = Work::new();
+        let answer = WorkStep {
             number: 0,
-            held: nothing,
+            work: empty,
         };
-        self.step_with(valid, answer)
+        self.step_with(x.valid, answer)
     }
 }

@@ -3,11 +3,29 @@ use crate::Session;
 use crate::Step;
 use ledger::report::put_report;
 use ledger::report::report_length as length_of;
+use work::counted::counted as counts_as;
 ghost use mathlib.Core.Path.{_≡_};
 ghost use lib.ListN.{length};
-ghost use Rattle.session.specs.Session.{reportText, report as reportOf, reportOutput};
+ghost use Rattle.session.specs.Session.{counted as countedOf, reportText, report as reportOf, reportOutput};
 
 impl Session {
+    // The session itself, or a new one.
+    fn counted(self) -> Session
+        ensures { λ r. ⌜ r ≡ countedOf self ⌝ }
+    {
+        let work = self.work;
+        let x = counts_as(work, self.ledger.count);
+        if !x.valid {
+            return Session::new();
+        }
+        let found = x.work;
+        let ledger = self.ledger;
+        Session {
+            work: found,
+            ledger: ledger,
+        }
+    }
+
     // How long the report is.
     pub fn report_length(self) -> usize
         ensures { λ r. ⌜ r ≡ length (reportText self) ⌝ }

@@ -1,39 +1,25 @@
--- The conversion by what the value counts as holding, and its record.
+-- The conversion by what the value counts as, and its record.
 use borrow.Author.Needs.{needs}
-use Rattle.cvalue.proofs.Counting.{held-if-valid}
-use Rattle.cvalue.proofs.Calls.{recordable, convert-gives, back-gives}
+use Rattle.cvalue.proofs.Calls.{convert-gives, convert-fills, convert-recordable, held-counts-valid}
 use Rattle.capi.proofs.sessions.yokebean_session_back.Statement.{statement}
 use Rattle.capi.proofs.sessions.yokebean_session_back.Tie as tie
 
-held-of-requires : tie.Need-held-of-requires
-held-of-requires c κs = search needs
+counted-value-requires : tie.Need-counted-value-requires
+counted-value-requires c κs = search needs
 
-is-valid-value-requires : tie.Need-is-valid-value-requires
-is-valid-value-requires c κs = search needs
+convert-requires : tie.Need-convert-requires
+convert-requires c κs = search held-counts-valid
 
-held-if-requires : tie.Need-held-if-requires
-held-if-requires c κs = search needs
-
-back-by-requires : tie.Need-back-by-requires
-back-by-requires c κs = search held-if-valid
-
-conversion-answers-requires : tie.Need-conversion-answers-requires
-conversion-answers-requires c κs = search recordable
+record-answers-requires : tie.Need-record-answers-requires
+record-answers-requires c κs = search convert-recordable
 
 same-length : tie.Need-same-length
 same-length c = search needs
 
 returns : tie.Need-returns
-returns c = (search convert-gives, search back-gives)
+returns c = (search convert-gives, search convert-fills)
 
 pub yokebean-session-back-spec : {M : Type 1} → statement M
 yokebean-session-back-spec =
     tie.close
-    (tie.spec
-    held-of-requires
-    is-valid-value-requires
-    held-if-requires
-    back-by-requires
-    conversion-answers-requires
-    same-length
-    returns)
+    (tie.spec counted-value-requires convert-requires record-answers-requires same-length returns)

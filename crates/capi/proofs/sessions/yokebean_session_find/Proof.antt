@@ -1,23 +1,20 @@
--- The call of what the value counts as holding, and its answer as a value.
+-- The answer of the session that the call acts on.
 use borrow.Author.Needs.{needs}
 use Rattle.cvalue.proofs.Calls.{find-gives}
 use Rattle.capi.proofs.sessions.yokebean_session_find.Statement.{statement}
 use Rattle.capi.proofs.sessions.yokebean_session_find.Tie as tie
 
-held-of-requires : tie.Need-held-of-requires
-held-of-requires c κs = search needs
+counted-value-requires : tie.Need-counted-value-requires
+counted-value-requires c κs = search needs
 
-is-valid-value-requires : tie.Need-is-valid-value-requires
-is-valid-value-requires c κs = search needs
-
-held-if-requires : tie.Need-held-if-requires
-held-if-requires c κs = search needs
+addressed-requires : tie.Need-addressed-requires
+addressed-requires c κs = search needs
 
 find-requires : tie.Need-find-requires
 find-requires c κs = search needs
 
-held-answers-requires : tie.Need-held-answers-requires
-held-answers-requires c κs = search needs
+holding-requires : tie.Need-holding-requires
+holding-requires c κs = search needs
 
 returns : tie.Need-returns
 returns c = search find-gives
@@ -25,10 +22,4 @@ returns c = search find-gives
 pub yokebean-session-find-spec : {M : Type 1} → statement M
 yokebean-session-find-spec =
     tie.close
-    (tie.spec
-    held-of-requires
-    is-valid-value-requires
-    held-if-requires
-    find-requires
-    held-answers-requires
-    returns)
+    (tie.spec counted-value-requires addressed-requires find-requires holding-requires returns)

@@ -1,6 +1,6 @@
 -- The report of the session of the value, which is given back.
 use borrow.Author.Needs.{needs}
-use Rattle.cvalue.proofs.SessionLaws.{report-answers}
+use Rattle.cvalue.proofs.Calls.{report-gives}
 use Rattle.capi.proofs.sessions.yokebean_session_report.Statement.{statement}
 use Rattle.capi.proofs.sessions.yokebean_session_report.Tie as tie
 
@@ -14,7 +14,7 @@ same-length : tie.Need-same-length
 same-length c = search needs
 
 returns : tie.Need-returns
-returns c = (search report-answers, (cc))
+returns c = (search report-gives, (cc))
 
 pub yokebean-session-report-spec : {M : Type 1} → statement M
 yokebean-session-report-spec =

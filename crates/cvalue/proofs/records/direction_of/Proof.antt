@@ -1,6 +1,6 @@
 -- 0 is forward, any other number back.
 use borrow.Author.Needs.{needs}
-use Rattle.cvalue.proofs.RecordLaws.{direction-other}
+use Rattle.cvalue.proofs.records.Laws.{direction-other}
 use Rattle.cvalue.proofs.records.direction_of.Statement.{statement}
 use Rattle.cvalue.proofs.records.direction_of.Tie as tie
 

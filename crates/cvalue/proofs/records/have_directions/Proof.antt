@@ -7,7 +7,7 @@ use lib.ListN.{take}
 use Rattle.algebra.specs.Lists.{all}
 use Rattle.cvalue.specs.Values.{hasDirection}
 use Rattle.ledger.proofs.Records.{records-long, Before, before-next}
-use Rattle.cvalue.proofs.RecordLaws.{directions-none, direction-next, direction-unknown, directions-all}
+use Rattle.cvalue.proofs.records.Laws.{directions-none, direction-next, direction-unknown, directions-all}
 use Rattle.cvalue.proofs.records.have_directions.Statement.{statement}
 use Rattle.cvalue.proofs.records.have_directions.Tie as tie
 

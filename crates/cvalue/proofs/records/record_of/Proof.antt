@@ -1,6 +1,6 @@
 -- Field by field.
 use borrow.Author.Needs.{needs}
-use Rattle.cvalue.proofs.RecordLaws.{record-made}
+use Rattle.cvalue.proofs.records.Laws.{record-made}
 use Rattle.cvalue.proofs.records.record_of.Statement.{statement}
 use Rattle.cvalue.proofs.records.record_of.Tie as tie
 

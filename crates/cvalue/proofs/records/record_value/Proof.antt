@@ -1,6 +1,6 @@
 -- Field by field.
 use borrow.Author.Needs.{needs}
-use Rattle.cvalue.proofs.RecordLaws.{value-made}
+use Rattle.cvalue.proofs.records.Laws.{value-made}
 use Rattle.cvalue.proofs.records.record_value.Statement.{statement}
 use Rattle.cvalue.proofs.records.record_value.Tie as tie
 

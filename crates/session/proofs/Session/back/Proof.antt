@@ -1,35 +1,25 @@
--- The conversion by what the session counts as holding, and its record.
+-- The conversion by what the session counts as, and its record.
 use borrow.Author.Needs.{needs}
-use Rattle.session.proofs.CountsAs.{counts, held-if-valid}
-use Rattle.session.proofs.Conversion.{room-left, converts, back-writes}
+use Rattle.session.specs.declared.Step.{Step}
+use Rattle.session.proofs.Calls.{convert-answers, convert-writes, held-valid, convert-room}
+use Rattle.session.proofs.CountsAs.{work-is, count-is}
 use Rattle.session.proofs.Session.back.Statement.{statement}
 use Rattle.session.proofs.Session.back.Tie as tie
 
-is-valid-requires : tie.Need-is-valid-requires
-is-valid-requires c κs = search needs
+counted-requires : tie.Need-counted-requires
+counted-requires c κs = search needs
 
-held-if-requires : tie.Need-held-if-requires
-held-if-requires c κs = search needs
+convert-requires : tie.Need-convert-requires
+convert-requires c κs = search (held-valid, work-is)
 
-back-by-requires : tie.Need-back-by-requires
-back-by-requires c κs = search held-if-valid
-
-answered-requires : tie.Need-answered-requires
-answered-requires c κs = search (room-left, counts)
+record-with-requires : tie.Need-record-with-requires
+record-with-requires c κs = search (convert-room, work-is, count-is)
 
 same-length : tie.Need-same-length
 same-length c = search needs
 
 returns : tie.Need-returns
-returns c = (search (converts, counts), search (back-writes, counts))
+returns c = (search (convert-answers (λ (y : Step). y), work-is, count-is), search (convert-writes, work-is, count-is))
 
 pub back-spec : {M : Type 1} → statement M
-back-spec =
-    tie.close
-    (tie.spec
-    is-valid-requires
-    held-if-requires
-    back-by-requires
-    answered-requires
-    same-length
-    returns)
+back-spec = tie.close (tie.spec counted-requires convert-requires record-with-requires same-length returns)

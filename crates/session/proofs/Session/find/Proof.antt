@@ -1,25 +1,25 @@
--- The answer is that of what is held.
+-- The answer of the session that the call acts on.
 use borrow.Author.Needs.{needs}
-use Rattle.session.proofs.Answer.{find-answers}
+use Rattle.session.specs.declared.Step.{Step}
+use Rattle.session.proofs.Calls.{find-answers}
+use Rattle.session.proofs.CountsAs.{work-is}
 use Rattle.session.proofs.Session.find.Statement.{statement}
 use Rattle.session.proofs.Session.find.Tie as tie
 
-is-valid-requires : tie.Need-is-valid-requires
-is-valid-requires c κs = search needs
+counted-requires : tie.Need-counted-requires
+counted-requires c κs = search needs
 
-held-if-requires : tie.Need-held-if-requires
-held-if-requires c κs = search needs
+addressed-requires : tie.Need-addressed-requires
+addressed-requires c κs = search needs
 
 find-requires : tie.Need-find-requires
 find-requires c κs = search needs
 
-step-with-requires : tie.Need-step-with-requires
-step-with-requires c κs = search needs
+holding-requires : tie.Need-holding-requires
+holding-requires c κs = search needs
 
 returns : tie.Need-returns
-returns c = search find-answers
+returns c = search (find-answers (λ (y : Step). y), work-is)
 
 pub find-spec : {M : Type 1} → statement M
-find-spec =
-    tie.close
-    (tie.spec is-valid-requires held-if-requires find-requires step-with-requires returns)
+find-spec = tie.close (tie.spec counted-requires addressed-requires find-requires holding-requires returns)

@@ -1,4 +1,4 @@
--- A new session holds a new value and no records.
+-- Nothing is held, no table is open, and there are no records.
 use borrow.Author.Needs.{needs}
 use Rattle.session.proofs.Session.new.Statement.{statement}
 use Rattle.session.proofs.Session.new.Tie as tie

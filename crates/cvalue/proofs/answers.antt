@@ -1,0 +1,2 @@
+-- What the proofs of answers use.
+mod Laws

@@ -1,0 +1,2 @@
+-- What the proofs of what is held use.
+mod Laws

@@ -1,0 +1,2 @@
+-- What the proofs of records use.
+mod Laws

@@ -1,0 +1,2 @@
+-- What the proofs of sessions use.
+mod Laws

@@ -1,0 +1,2 @@
+-- What the proofs of tables use.
+mod Laws
