@@ -26,8 +26,10 @@ use Rattle.refusal.proofs.Refusal.{refuse-none}
 use Rattle.array.specs.Array.{padded}
 use Rattle.held.specs.Held.{valid, validAs, validHeld, viewAs, view, pairedHeld}
 use Rattle.table.specs.Table.{eachGroup, converted, tableNumber}
-use Rattle.conversion.specs.Conversion.{convertFrom}
-use Rattle.session.specs.Session.{validWith, counted, convertNumber, outputBy}
+use Rattle.work.specs.Number.{stateFrom, stateNumber, fullNumber}
+use Rattle.work.specs.Work.{validWork, looked}
+use Rattle.conversion.specs.Conversion.{imagesIn, convertNumber, convertOutput}
+use Rattle.session.specs.Session.{counted}
 use Rattle.promises.specs.Examples.{FinderValues, Examples}
 use Rattle.promises.proofs.Listed.{listed, found, outputs}
 use Rattle.promises.proofs.Refused.{words-counted, factor-divides, indivisible-refused, divisor-refused, second-refused}
@@ -36,7 +38,7 @@ pub examples : Examples
 unfolding hasDivisor dividesTest residues prefixed all equal first range bits numberFrom bytes packed width allBits card badKind cardLength writeNumber
     writeOutput zeta radicand rootOfRatio firstNonZero exponent divides findable findNumber isPrime badPrime isDegree badDegree badLength badWord allBelow congruencesHold checkNumberOr
     monic polynomialProduct sum scale constant shift top timesX product power residueOfX substitute modulusAt padded valid validAs validHeld viewAs
-    view pairedHeld eachGroup converted tableNumber validWith counted convertFrom convertNumber outputBy unpacked fieldAt cardPrime cardDegree cardKind
+    view pairedHeld eachGroup converted tableNumber validWork looked counted imagesIn stateFrom stateNumber fullNumber convertNumber convertOutput unpacked fieldAt cardPrime cardDegree cardKind
     fieldsAt cardWords fillBits readNumber part cardPart ringText printed pairLine pairCardText cardText
     answerText ascii
 examples =

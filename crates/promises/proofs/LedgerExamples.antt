@@ -12,11 +12,13 @@ use Rattle.text.specs.Digits.{decimal, lastDigits}
 use Rattle.held.specs.Held.{valid, validAs, validHeld, viewAs, view, pairedHeld}
 use Rattle.table.specs.Table.{tableNumber}
 use Rattle.ledger.specs.Ledger.{total, letter, number, line, lines, report}
-use Rattle.conversion.specs.Conversion.{convertFrom}
-use Rattle.session.specs.Session.{validWith, counted, answer, convertNumber, convert, reportText, reportNumber}
+use Rattle.work.specs.Number.{stateFrom, stateNumber, fullNumber}
+use Rattle.work.specs.Work.{validWork, looked}
+use Rattle.conversion.specs.Conversion.{convertNumber, convert}
+use Rattle.session.specs.Session.{counted, answer, recordWith, reportText, reportNumber}
 use Rattle.promises.specs.LedgerExamples.{LedgerExamples}
 
 pub ledger-examples : LedgerExamples
 unfolding all first range isPrime padded allBelow badPrime isDegree badDegree badWord ascii decimal lastDigits valid validAs validHeld viewAs view pairedHeld tableNumber total letter number line lines report
-    validWith counted answer convertFrom convertNumber convert reportText reportNumber
+    validWork looked counted answer recordWith stateFrom stateNumber fullNumber convertNumber convert reportText reportNumber
 ledger-examples = record { no-records = refl; A-report = refl; A-output = λ out e. rw (eq-eqb (length out) 4 e) }

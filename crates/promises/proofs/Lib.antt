@@ -1,10 +1,11 @@
--- The proofs of all promises, of the examples, the sheets, the reports, the maps and the towers.
+-- The proofs of all promises, of the examples, the sheets, the reports, the maps, the towers and the table in parts.
 mod Promises
 mod Examples
 mod SheetExamples
 mod LedgerExamples
 mod MapsExamples
 mod TowerExamples
+mod OpenTableExamples
 mod Listed
 mod ListedTower
 mod Refused

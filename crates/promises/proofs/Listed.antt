@@ -27,7 +27,6 @@ use Rattle.finder.proofs.Eigenvectors.{generator-first, zeta-found, radicand-fo
 use Rattle.finder.proofs.Findable.{models-admissible}
 use Rattle.finder.proofs.Theorem.{demand-3}
 use Rattle.pair.specs.Pair.{Congruences, checkNumber}
-use Rattle.pair.specs.Theorem.{Given}
 use Rattle.pair.proofs.Theorem.{checker-theorem}
 use Rattle.refusal.specs.Refusal.{badLength, badWord}
 use Rattle.refusal.proofs.Lists.{words-given}
@@ -37,6 +36,7 @@ use Rattle.quotient.specs.Divisor.{HasDivisor}
 use Rattle.quotient.specs.Residue.{power, constant, modulusAt, scale, substitute}
 use Rattle.quotient.proofs.Substitution.{substitute-substitute, x-substitute}
 use Rattle.promises.specs.Examples.{FinderValues}
+use Rattle.refusal.specs.Models.{Given}
 
 pub record Listed (p n : ℕ) (t : List ℕ) (z a : ℕ) (v : List ℕ) (b k : ℕ) : Type 0 where
   root : RootOfConstant p n t z v b

@@ -1,18 +1,20 @@
 -- Every promise with its proof.
 use Rattle.answer.proofs.LongInput as Answer
 use Rattle.card.proofs.Theorem as Card
-use Rattle.cvalue.proofs.Theorem as Values
+use Rattle.runs.proofs.OverC as Values
 use Rattle.finder.proofs.Theorem as Finder
 use Rattle.finder.proofs.Rounds as Rounds
 use Rattle.finder.proofs.Triangle as Triangle
-use Rattle.held.proofs.Theorem as Held
 use Rattle.irreducible.proofs.Theorem as Irreducible
 use Rattle.ledger.proofs.Theorem as Ledger
 use Rattle.maps.proofs.Theorem as Maps
 use Rattle.modular.proofs.IsPrime as Modular
 use Rattle.pair.proofs.Theorem as Pair
+use Rattle.pairing.proofs.Theorem as Pairing
 use Rattle.quotient.proofs.Theorem as Quotient
-use Rattle.session.proofs.Theorem as Session
+use Rattle.runs.proofs.OpenTable as OpenTable
+use Rattle.runs.proofs.Theorem as Session
+use Rattle.runs.proofs.Totals as Totals
 use Rattle.sheet.proofs.Theorem as Sheet
 use Rattle.text.proofs.Theorem as Text
 use Rattle.text.proofs.ColumnDetermines as Columns
@@ -20,6 +22,7 @@ use Rattle.promises.specs.Promises.{Promises}
 use Rattle.promises.proofs.Examples as Examples
 use Rattle.promises.proofs.LedgerExamples as LedgerExamples
 use Rattle.promises.proofs.MapsExamples as MapsExamples
+use Rattle.promises.proofs.OpenTableExamples as OpenTableExamples
 use Rattle.promises.proofs.TowerExamples as TowerExamples
 use Rattle.promises.proofs.SheetExamples as SheetExamples
 
@@ -28,7 +31,7 @@ promises =
     record {
       every-run = Session.every-run;
       refusals-change-nothing = Session.refusals-change-nothing;
-      counts-as-held = Held.counts-as-held;
+      counts-as-held = Pairing.counts-as-held;
       accepted = Pair.checker-theorem;
       degree-one = Pair.degree-one;
       group-by-group = Session.group-by-group;
@@ -65,7 +68,7 @@ promises =
       sheet-has-length = Sheet.sheet-has-length;
       sheet-determines = Sheet.sheet-determines;
       sheet-examples = SheetExamples.sheet-examples;
-      totals-count = Session.totals-count;
+      totals-count = Totals.totals-count;
       conversion-adds-record = Session.conversion-adds-record;
       others-keep-ledger = Session.others-keep-ledger;
       added-behind = Ledger.added-behind;
@@ -74,6 +77,11 @@ promises =
       every-map = Maps.maps-theorem;
       maps-are-conjugates = Maps.maps-are-conjugates;
       maps-examples = MapsExamples.maps-examples;
+      part-by-part = OpenTable.part-by-part;
+      table-keeps-pair = OpenTable.table-keeps-pair;
+      end-closes = OpenTable.end-closes;
+      clear-drops = OpenTable.clear-drops;
+      open-table-examples = OpenTableExamples.open-table-examples;
       values-follow = Values.values-follow;
       examples = Examples.examples;
     }

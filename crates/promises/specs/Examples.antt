@@ -13,8 +13,11 @@ use Rattle.pair.specs.Pair.{checkNumber}
 use Rattle.text.specs.Ascii.{ascii}
 use Rattle.quotient.specs.Divisor.{monic, polynomialProduct}
 use Rattle.array.specs.Words.{Words}
-use Rattle.held.specs.Held.{pairedHeld}
-use Rattle.session.specs.Session.{newSession, withHeld, forwardOutput, backOutput}
+use Rattle.held.specs.Held.{pairedHeld, newHeld}
+use Rattle.ledger.specs.declared.Direction.the-variants.{Forward, Back}
+use Rattle.work.specs.declared.Table.the-variants.{Closed}
+use Rattle.session.specs.Session.{newSession, withWork, convertOutput}
+use Rattle.session.specs.declared.Session.{Session}
 
 -- the finder's values for two models, from ζ to R; c is 1
 pub record FinderValues (p n : ℕ) (t1 t2 : List ℕ) (z a : ℕ) (alpha1 alpha2 s r : List ℕ) : Type 0 where
@@ -26,6 +29,11 @@ pub record FinderValues (p n : ℕ) (t1 t2 : List ℕ) (z a : ℕ) (alpha1 alpha
   pub r-is : findR p n t1 t2 ≡ r
   pub number-is : (lentS lentR : List ℕ) → length lentS ≡ n → length lentR ≡ n → findNumber p n t1 t2 lentS lentR ≡ 0
 
+-- a session that holds the pair of A
+abbrev pub pairOfA : Session
+pairOfA =
+    withWork newSession (record { held = pairedHeld 3 2 (1 ∷ 0 ∷ []) (2 ∷ 1 ∷ []) (1 ∷ 2 ∷ []) (1 ∷ 2 ∷ []); table = Closed; waiting = newHeld })
+
 pub record Examples : Type 0 where
   -- A: p 3, T1 [1,0], T2 [2,1]: ζ 2, α1 [0,1], α2 [1,2], c 1, S [1,2], R [1,2]
   pub A : FinderValues 3 2 (1 ∷ 0 ∷ []) (2 ∷ 1 ∷ []) 2 2 (0 ∷ 1 ∷ []) (1 ∷ 2 ∷ []) (1 ∷ 2 ∷ []) (1 ∷ 2 ∷ [])
@@ -35,12 +43,8 @@ pub record Examples : Type 0 where
       (findOutputS 3 2 (1 ∷ 0 ∷ []) (2 ∷ 1 ∷ []) (2 ∷ 1 ∷ []) (1 ∷ 1 ∷ []) ≡ 1 ∷ 2 ∷ [])
       × (findOutputR 3 2 (1 ∷ 0 ∷ []) (2 ∷ 1 ∷ []) (2 ∷ 1 ∷ []) (1 ∷ 1 ∷ []) ≡ 1 ∷ 2 ∷ [])
   -- C: pair of A: forward of [1,1] is [2,2], back of [2,2] is [1,1]
-  pub C-forward :
-      (out : List ℕ) → length out ≡ 2
-      → forwardOutput (withHeld newSession (pairedHeld 3 2 (1 ∷ 0 ∷ []) (2 ∷ 1 ∷ []) (1 ∷ 2 ∷ []) (1 ∷ 2 ∷ []))) (1 ∷ 1 ∷ []) out ≡ 2 ∷ 2 ∷ []
-  pub C-back :
-      (out : List ℕ) → length out ≡ 2
-      → backOutput (withHeld newSession (pairedHeld 3 2 (1 ∷ 0 ∷ []) (2 ∷ 1 ∷ []) (1 ∷ 2 ∷ []) (1 ∷ 2 ∷ []))) (2 ∷ 2 ∷ []) out ≡ 1 ∷ 1 ∷ []
+  pub C-forward : (out : List ℕ) → length out ≡ 2 → convertOutput Forward pairOfA (1 ∷ 1 ∷ []) out ≡ 2 ∷ 2 ∷ []
+  pub C-back : (out : List ℕ) → length out ≡ 2 → convertOutput Back pairOfA (2 ∷ 2 ∷ []) out ≡ 1 ∷ 1 ∷ []
   -- D: p 7, T1 [5,0,0], T2 [4,0,0]: ζ 2, and "case D then has a 3, α1 [0,0,3], α2 [0,1,0], c 1, S [0,0,2] and R [0,0,3]"
   pub D :
       FinderValues 7 3 (5 ∷ 0 ∷ 0 ∷ []) (4 ∷ 0 ∷ 0 ∷ []) 2 3 (0 ∷ 0 ∷ 3 ∷ []) (0 ∷ 1 ∷ 0 ∷ []) (0 ∷ 0 ∷ 2 ∷ []) (0 ∷ 0 ∷ 3 ∷ [])

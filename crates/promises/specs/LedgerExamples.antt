@@ -4,17 +4,12 @@ use mathlib.Core.List.{List, [], _∷_}
 use Prim.Native.Nat.{ℕ}
 use lib.ListN.{length}
 use Rattle.text.specs.Ascii.{ascii}
-use Rattle.held.specs.Held.{pairedHeld}
 use Rattle.ledger.specs.declared.Direction.the-variants.{Forward, Back}
-use Rattle.session.specs.Session.{newSession, withHeld, convert, reportText, reportOutput}
-use Rattle.session.specs.declared.Session.{Session}
-
--- A: p 3, T1 [1,0], T2 [2,1], S [1,2], R [1,2]
-abbrev pub paired : Session
-paired = withHeld newSession (pairedHeld 3 2 (1 ∷ 0 ∷ []) (2 ∷ 1 ∷ []) (1 ∷ 2 ∷ []) (1 ∷ 2 ∷ []))
+use Rattle.session.specs.Session.{newSession, convert, reportText, reportOutput}
+use Rattle.promises.specs.Examples.{pairOfA}
 
 pub record LedgerExamples : Type 0 where
   pub no-records : reportText newSession ≡ ascii "0\n0\n"
   pub A-report :
-      reportText (convert Back (convert Forward paired (1 ∷ 1 ∷ 0 ∷ 2 ∷ []) (0 ∷ 0 ∷ 0 ∷ 0 ∷ []) .session) [] [] .session) ≡ ascii "F 2\nB 0\n2\n0\n"
-  pub A-output : (out : List ℕ) → length out ≡ 4 → reportOutput paired out ≡ ascii "0\n0\n"
+      reportText (convert Back (convert Forward pairOfA (1 ∷ 1 ∷ 0 ∷ 2 ∷ []) (0 ∷ 0 ∷ 0 ∷ 0 ∷ []) .session) [] [] .session) ≡ ascii "F 2\nB 0\n2\n0\n"
+  pub A-output : (out : List ℕ) → length out ≡ 4 → reportOutput pairOfA out ≡ ascii "0\n0\n"

@@ -1,7 +1,8 @@
--- All that is promised, the examples of document 01, two sheets, two reports, the maps of one pair and two towers.
+-- All that is promised, the examples of document 01, two sheets, two reports, the maps of one pair, two towers and a table in parts.
 pub mod Promises
 pub mod Examples
 pub mod SheetExamples
 pub mod LedgerExamples
 pub mod MapsExamples
 pub mod TowerExamples
+pub mod OpenTableExamples

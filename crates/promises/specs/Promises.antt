@@ -7,7 +7,7 @@
 -- promises say what these definitions mean.
 use Rattle.answer.specs.Theorem.{LongInput}
 use Rattle.card.specs.Theorem.{WrittenReadsBack, ReadIsWritten, LongestCard}
-use Rattle.cvalue.specs.Theorem.{ValuesFollow}
+use Rattle.runs.specs.OverC.{ValuesFollow}
 use Rattle.finder.specs.Rounds.{RoundsDecide, OneTower}
 use Rattle.finder.specs.Scalings.{ScalingsAreCounted}
 use Rattle.finder.specs.Stored.{EveryScalingAccepted}
@@ -20,25 +20,28 @@ use Rattle.maps.specs.Theorem.{MapsTheorem, MapsAreConjugates}
 use Rattle.pair.specs.Theorem.{CheckerTheorem, CongruencesTheorem, DivisorsTogether, DegreeOne}
 use Rattle.quotient.specs.DivisorTest.{DivisorTestIsExact}
 use Rattle.quotient.specs.Theorem.{ResiduesAreARing, ModulusVanishes, ProductIsRemainder, SubstitutionIsSum, SubstitutionPreserves, ResiduesAreListed, FieldExactly, PowerOfUnit, IrreducibleDivisor, FrobeniusIsLinear}
-use Rattle.held.specs.Theorem.{CountsAsHeld}
+use Rattle.pairing.specs.Theorem.{CountsAsHeld}
 use Rattle.ledger.specs.Theorem.{AddedBehind, ReportDetermines}
-use Rattle.session.specs.Theorem.{EveryRun, RefusalsChangeNothing, GroupByGroup, BackAgain, ConversionAddsRecord, OthersKeepLedger, TotalsCount}
+use Rattle.runs.specs.OpenTable.{PartByPart, TableKeepsPair, EndCloses, ClearDrops, TotalsCount}
+use Rattle.runs.specs.Theorem.{EveryRun, RefusalsChangeNothing, GroupByGroup, BackAgain, ConversionAddsRecord, OthersKeepLedger}
 use Rattle.sheet.specs.Theorem.{SheetHasLength, SheetDetermines}
 use Rattle.text.specs.Theorem.{DecimalIsDecimal, ColumnDetermines}
 use Rattle.promises.specs.Examples.{Examples}
 use Rattle.promises.specs.LedgerExamples.{LedgerExamples}
 use Rattle.promises.specs.MapsExamples.{MapsExamples}
+use Rattle.promises.specs.OpenTableExamples.{OpenTableExamples}
 use Rattle.promises.specs.SheetExamples.{SheetExamples}
 use Rattle.promises.specs.TowerExamples.{TowerExamples}
 
 pub record Promises : Type 0 where
-  -- Demand 1 (session/specs/Theorem.antt, held/specs/Theorem.antt): every list of calls makes of a new session one that is new, loaded or paired with an accepted pair,
-  -- with up to 512 records; a refused call gives back the session and leaves the lent lists; what calls make counts as what it holds
+  -- Demand 1 (runs/specs/Theorem.antt, pairing/specs/Theorem.antt): every list of calls makes of a new session one that is new, loaded or paired with an accepted pair,
+  -- with up to 512 records, and a table is open only over a pair and with room for its record; a refused call gives back the session and leaves the lent lists; what calls
+  -- make counts as what it holds
   pub every-run : EveryRun
   pub refusals-change-nothing : RefusalsChangeNothing
   pub counts-as-held : CountsAsHeld
   -- Demand 2. Accepted (pair/specs/Theorem.antt): 0 exactly when 1 to 4 do not apply, neither modulus has a proper divisor and the four congruences hold. Found: demand 3 below.
-  -- Converted (session/specs/Theorem.antt): the k-th group of the output is the image of the k-th group of the input, for every k; and a table
+  -- Converted (runs/specs/Theorem.antt): the k-th group of the output is the image of the k-th group of the input, for every k; and a table
   -- comes back
   pub accepted : CheckerTheorem
   pub degree-one : DegreeOne
@@ -90,9 +93,9 @@ pub record Promises : Type 0 where
   pub sheet-has-length : SheetHasLength
   pub sheet-determines : SheetDetermines
   pub sheet-examples : SheetExamples
-  -- The ledger of conversions, request S-2 (session/specs/Theorem.antt, ledger/specs/Theorem.antt): each total is the number of residues that the successful conversions
-  -- of its direction had, for every list of calls; a conversion adds one record and changes nothing else; the other calls keep the ledger; a record that is
-  -- added stands behind the others; the report determines the records; reports computed (specs/LedgerExamples.antt)
+  -- The ledger of conversions, requests S-2 and S-8 (runs/specs/OpenTable.antt, Theorem.antt, ledger/specs/Theorem.antt): each total is the number of residues that the successful
+  -- conversions and the feeds of ended tables of its direction had, for every list of calls; a conversion adds one record and changes nothing else; all calls but conversions and end
+  -- keep the ledger; a record that is added stands behind the others; the report determines the records; reports computed (specs/LedgerExamples.antt)
   pub totals-count : TotalsCount
   pub conversion-adds-record : ConversionAddsRecord
   pub others-keep-ledger : OthersKeepLedger
@@ -104,7 +107,15 @@ pub record Promises : Type 0 where
   pub every-map : MapsTheorem
   pub maps-are-conjugates : MapsAreConjugates
   pub maps-examples : MapsExamples
-  -- Over C (cvalue/specs/Theorem.antt): every list of calls makes of a new value one that is taken for the session that it makes of a new session
+  -- The next pair while a table is running, request S-8 (runs/specs/OpenTable.antt): a feed writes the images of its part, group by group; for every list of calls from a new session, an open table keeps the pair it began with until end or clear;
+  -- end closes it with one record of all its residues, and a paired waiting session becomes the current one; clear drops both; a table in two parts computed
+  -- (specs/OpenTableExamples.antt)
+  pub part-by-part : PartByPart
+  pub table-keeps-pair : TableKeepsPair
+  pub end-closes : EndCloses
+  pub clear-drops : ClearDrops
+  pub open-table-examples : OpenTableExamples
+  -- Over C (runs/specs/OverC.antt): every list of calls makes of a new value one that is taken for the session that it makes of a new session
   pub values-follow : ValuesFollow
   -- Small fields by hand, A to I (specs/Examples.antt)
   pub examples : Examples
