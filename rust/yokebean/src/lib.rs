@@ -1,6 +1,6 @@
-//! Isomorphisms of finite fields: test a modulus, check a pair, list all maps, find a pair, convert tables through it. Each function passes its
-//! slices on to the proved call of the same name in include/yokebean.h, which `rt staticlib capi` builds; none of them panics, and a refused call
-//! leaves every slice as it was.
+//! Isomorphisms of finite fields: test a modulus, check a pair, list all maps, find a pair, convert tables through it, whole or in parts. Each
+//! function passes its slices on to the proved call of the same name in include/yokebean.h, which `rt staticlib capi` builds; none of them panics,
+//! and a refused call leaves every slice as it was.
 //!
 //! A model is a prime p up to 65,535, a degree n from 1 to 16 and a monic modulus of degree n; its n lower words are passed, constant first.
 //! A residue is n words below p, in the same order.
@@ -20,8 +20,10 @@
 
 pub mod raw;
 mod refusal;
+mod table;
 
 pub use refusal::Refusal;
+pub use table::OpenTable;
 
 fn answer<T>(number: u32, value: T) -> Result<T, Refusal> {
     if number == 0 {
@@ -241,7 +243,7 @@ pub enum Direction {
     Back,
 }
 
-/// A record of the ledger: a conversion that succeeded, and how many residues it had.
+/// A record of the ledger: a conversion that succeeded or a table that was ended, and how many residues it had.
 ///
 /// ```
 /// use yokebean::{Direction, Record, Session, Size};
@@ -258,7 +260,7 @@ pub struct Record {
 }
 
 /// A session, by value: empty, loaded with two models, or paired as well; and a ledger of up to 512 records, one for each conversion that
-/// succeeded. A refused call leaves the caller with the session it had.
+/// succeeded and for each table that was ended. A refused call leaves the caller with the session it had.
 #[derive(Clone, Copy, Debug, PartialEq, Eq)]
 pub struct Session(raw::Session);
 
@@ -357,6 +359,28 @@ impl Session {
     /// ```
     pub fn back(self, table: &[u16], out: &mut [u16]) -> Result<Self, Refusal> {
         Self::next(unsafe { raw::yokebean_session_back(self.0, table.as_ptr(), table.len(), out.as_mut_ptr(), out.len()) })
+    }
+
+    /// Opens a table that comes in parts, of residues modulo T1 forward or modulo T2 back. Refusals 21, 22, 25.
+    ///
+    /// ```
+    /// use yokebean::{Direction, Refusal, Session, Size};
+    ///
+    /// let loaded = Session::new().load(Size { p: 3, n: 2 }, &[1, 0], &[2, 1])?;
+    /// assert_eq!(loaded.begin(Direction::Forward), Err(Refusal::SessionWithoutPair));
+    /// let (mut first, mut second) = ([0; 2], [0; 2]);
+    /// let table = loaded.find()?.begin(Direction::Forward)?;
+    /// let next = table.feed(&[1, 1], &mut first)?.feed(&[0, 2], &mut second)?.end();
+    /// assert_eq!((first, second), ([2, 2], [2, 1]));
+    /// assert_eq!(next.records().count(), 1);
+    /// # Ok::<(), Refusal>(())
+    /// ```
+    pub fn begin(self, direction: Direction) -> Result<OpenTable, Refusal> {
+        let step = match direction {
+            Direction::Forward => unsafe { raw::yokebean_session_begin_forward(self.0) },
+            Direction::Back => unsafe { raw::yokebean_session_begin_back(self.0) },
+        };
+        Self::next(step).map(OpenTable)
     }
 
     /// The records of the ledger, in order.

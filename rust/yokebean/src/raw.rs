@@ -12,8 +12,22 @@ pub struct Record {
     pub residues: u32,
 }
 
-/// A session's value: state 0 is empty, 1 loaded, 2 paired; the first n words of each array and the first `records` records of the ledger count.
-/// The moduli and the pair of a paired value are not tested again for divisors and congruences.
+/// What a session holds: state 0 is empty, 1 loaded, 2 paired; the first n words of each array count.
+#[repr(C)]
+#[derive(Clone, Copy, Debug, PartialEq, Eq)]
+pub struct Held {
+    pub state: u32,
+    pub p: u32,
+    pub n: u32,
+    pub t1: [u16; 16],
+    pub t2: [u16; 16],
+    pub s: [u16; 16],
+    pub r: [u16; 16],
+}
+
+/// A session's value: what the current session holds, as in [`Held`]; the ledger, of which the first `records` records count; and the open table.
+/// `open` is 0 without an open table, 1 with a forward one, 2 with a back one; `fed` is the number of residues fed to it so far, and `waiting` what
+/// the waiting session holds. The moduli and the pair of a paired value are not tested again for divisors and congruences.
 #[repr(C)]
 #[derive(Clone, Copy, Debug, PartialEq, Eq)]
 pub struct Session {
@@ -26,6 +40,9 @@ pub struct Session {
     pub r: [u16; 16],
     pub records: u32,
     pub ledger: [Record; 512],
+    pub open: u32,
+    pub fed: u32,
+    pub waiting: Held,
 }
 
 /// A session call's answer: the number and the next session; refused, the session that the call took.
@@ -65,6 +82,10 @@ extern "C" {
     pub fn yokebean_session_find(session: Session) -> Step;
     pub fn yokebean_session_forward(session: Session, table: Words, table_len: usize, out: Lent, out_len: usize) -> Step;
     pub fn yokebean_session_back(session: Session, table: Words, table_len: usize, out: Lent, out_len: usize) -> Step;
+    pub fn yokebean_session_begin_forward(session: Session) -> Step;
+    pub fn yokebean_session_begin_back(session: Session) -> Step;
+    pub fn yokebean_session_feed(session: Session, table: Words, table_len: usize, out: Lent, out_len: usize) -> Step;
+    pub fn yokebean_session_end(session: Session) -> Step;
     pub fn yokebean_session_report(session: Session, out: *mut u8, out_len: usize) -> Step;
     pub fn yokebean_session_report_length(session: Session) -> usize;
     pub fn yokebean_session_clear(session: Session) -> Step;

@@ -5,7 +5,8 @@ use std::fmt;
 /// The enum, its numbers and its sentences, from one list.
 macro_rules! refusals {
     ($($number:literal $name:ident $sentence:literal)*) => {
-        /// Why a call was refused. Its `Display` is the documents' sentence.
+        /// Why a call was refused. Its `Display` is the documents' sentence. Of load, propose and find on an [`OpenTable`](crate::OpenTable),
+        /// 21, 23 and 24 are about the waiting session.
         ///
         /// ```
         /// use yokebean::{check, Refusal, Size};
@@ -63,16 +64,18 @@ refusals! {
     6 FirstModulusFactors "T1, or T where a call has one modulus, has a monic divisor of degree 1 to n − 1"
     7 SecondModulusFactors "T2 has a monic divisor of degree 1 to n − 1"
     8 Congruence "one of the four congruences fails"
-    9 TableLength "words to convert: above 32,768 or not a multiple of n"
+    9 TableLength "words to convert: above 32,768 or not a multiple of n; or a part that would bring its table above 4,294,967,295 residues"
     10 OutputLength "output length differs from input length"
     11 CardLength "card under 3 bytes, or not of its exact length"
     12 CardKind "kind is neither 1 nor 2"
     13 FillBit "a fill bit is 1"
-    21 SessionEmpty "the session is empty, and the call is propose, find, forward or back"
-    22 SessionWithoutPair "the session is loaded without a pair, and the call is forward or back"
+    21 SessionEmpty "the session is empty, and the call is propose, find, forward, back or begin"
+    22 SessionWithoutPair "the session is loaded without a pair, and the call is forward, back or begin"
     23 SessionNotEmpty "the session is not empty, and the call is load"
     24 SessionPaired "the session is paired, and the call is propose or find"
     25 LedgerFull "the ledger holds 512 records"
+    26 NoTableOpen "no table is open, and the call is feed or end"
+    27 TableOpen "a table is open, and the call is begin, forward or back"
 }
 
 impl std::error::Error for Refusal {}
