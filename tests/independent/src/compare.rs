@@ -19,7 +19,7 @@ use std::collections::BTreeMap;
 use std::fmt::Debug;
 
 /// The numbers that a call can give. Each must have occurred with it.
-const NUMBERS: [(&str, &[u32]); 21] = [
+const NUMBERS: [(&str, &[u32]); 30] = [
     ("product", &[0, 1, 2, 3, 4]),
     ("power", &[0, 1, 2, 3, 4]),
     ("substitute", &[0, 1, 2, 3, 4]),
@@ -34,9 +34,18 @@ const NUMBERS: [(&str, &[u32]); 21] = [
     ("session_load", &[0, 23, 1, 2, 3, 4]),
     ("session_propose", &[0, 21, 24, 3, 4, 6, 7, 8]),
     ("session_find", &[0, 21, 24, 5, 6, 7]),
-    ("session_forward", &[0, 21, 22, 9, 10, 4, 25]),
-    ("session_back", &[0, 21, 22, 9, 10, 4, 25]),
+    ("session_forward", &[0, 21, 22, 27, 9, 10, 4, 25]),
+    ("session_back", &[0, 21, 22, 27, 9, 10, 4, 25]),
+    ("session_begin_forward", &[0, 21, 22, 27, 25]),
+    ("session_begin_back", &[0, 21, 22, 27, 25]),
+    ("session_feed", &[0, 26, 9, 10, 4]),
+    ("session_end", &[0, 26]),
     ("session_report", &[0, 3]),
+    ("waiting_load", &[0, 23, 1, 2, 3, 4]),
+    ("waiting_propose", &[0, 21, 24, 3, 4, 6, 7, 8]),
+    ("waiting_find", &[0, 21, 24, 5, 6, 7]),
+    ("table_forward", &[0]),
+    ("table_back", &[0]),
     ("card_read", &[0, 3, 11, 1, 12, 13, 4]),
     ("card_write", &[0, 1, 2, 12, 3, 4]),
     ("fieldcard", &[0, 11, 1, 12, 13, 4, 5, 6, 7, 8]),
@@ -56,6 +65,13 @@ impl Tally {
         *self.seen.entry((call, number)).or_default() += 1;
     }
 
+    /// Takes the comparisons of another tally too.
+    pub fn join(&mut self, other: Tally) {
+        for (key, count) in other.seen {
+            *self.seen.entry(key).or_default() += count;
+        }
+    }
+
     /// Prints the counts.
     pub fn report(&self) {
         let mut calls: BTreeMap<&str, String> = BTreeMap::new();
@@ -63,7 +79,7 @@ impl Tally {
             *calls.entry(call).or_default() += &format!(" {number}:{count}");
         }
         for (call, counts) in calls {
-            println!("{call:<16}{counts}");
+            println!("{call:<22}{counts}");
         }
         for (call, numbers) in NUMBERS {
             for number in numbers {

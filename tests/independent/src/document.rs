@@ -9,6 +9,7 @@ pub mod divisor;
 pub mod earlier;
 pub mod eigenvector;
 pub mod finder;
+pub mod held;
 pub mod maps;
 pub mod model;
 pub mod polynomial;

@@ -1,5 +1,5 @@
-//! Examples A to J of document 01, D as request S-6 and F as request S-3 has it, the report, the sheet and the maps of A, and degrees that are powers
-//! of p, on the independent implementation itself.
+//! Examples A to J of document 01, D as request S-6 and F as request S-3 has it, the report, the sheet and the maps of A, degrees that are powers of
+//! p, and a table in parts under A while D waits, on the independent implementation itself.
 
 use crate::document::eigenvector::zeta_and_a;
 use crate::document::finder::{self, method, Method};
@@ -38,8 +38,27 @@ fn towers_hold() {
     assert_eq!([(2, 3), (2, 6), (2, 12), (3, 6), (3, 12), (5, 10)].map(|(p, n)| method(p, n)), [None; 6]);
 }
 
+/// A table in parts under A's pair. Meanwhile D is loaded and found: it converts after the end, or, where it was only loaded, A's pair does still.
+fn table_holds() {
+    let paired = Session::new().load(3, 2, &[1, 0], &[2, 1]).unwrap().find().unwrap();
+    assert_eq!((paired.feed(&[1, 1], 2), paired.end()), (Err(26), Err(26)));
+    let (first, table) = paired.begin(true).unwrap().feed(&[1, 1], 2).unwrap();
+    assert_eq!((table.find(), table.convert(true, &[1], 0), table.begin(false)), (Err(21), Err(27), Err(27)));
+    let loaded = table.load(7, 3, &[5, 0, 0], &[4, 0, 0]).unwrap();
+    let (second, table) = loaded.find().unwrap().feed(&[0, 2], 2).unwrap();
+    assert_eq!((&first[..], &second[..]), (&[2, 2][..], &[2, 1][..]));
+    let (image, session) = table.end().unwrap().convert(true, &[0, 1, 0], 3).unwrap();
+    assert_eq!(image, [0, 0, 2]);
+    assert_eq!(session.report(&[0; 12]), (0, b"F 2\nF 1\n3\n0\n".to_vec()));
+    let (image, session) = loaded.end().unwrap().convert(true, &[1, 1], 2).unwrap();
+    assert_eq!(image, [2, 2]);
+    assert_eq!(session.report(&[0; 12]), (0, b"F 1\nF 1\n2\n0\n".to_vec()));
+    assert_eq!(table.clear(), Session::new());
+}
+
 pub fn hold() {
     towers_hold();
+    table_holds();
     let pair = finder::pair(3, &[1, 0], &[2, 1]);
     assert_eq!((zeta_and_a(3, 2), &pair.alpha1[..], &pair.alpha2[..]), ((2, 2), &[0, 1][..], &[1, 2][..]));
     assert_eq!((&pair.s[..], &pair.r[..]), (&[1, 2][..], &[1, 2][..]));

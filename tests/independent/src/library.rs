@@ -1,6 +1,6 @@
 //! The proved library as the tests see it: numbers for answers, and session calls with the session that is given back.
 
-pub use yokebean::raw::{Record, Session, Step};
+pub use yokebean::raw::{Held, Record, Session, Step};
 use yokebean::{raw, Refusal};
 
 /// The number of an answer: 0 where it is accepted.
@@ -27,6 +27,19 @@ pub fn find(session: Session) -> Step {
 pub fn convert(session: Session, forward: bool, table: &[u16], out: &mut [u16]) -> Step {
     let call = if forward { raw::yokebean_session_forward } else { raw::yokebean_session_back };
     unsafe { call(session, table.as_ptr(), table.len(), out.as_mut_ptr(), out.len()) }
+}
+
+pub fn begin(session: Session, forward: bool) -> Step {
+    let call = if forward { raw::yokebean_session_begin_forward } else { raw::yokebean_session_begin_back };
+    unsafe { call(session) }
+}
+
+pub fn feed(session: Session, part: &[u16], out: &mut [u16]) -> Step {
+    unsafe { raw::yokebean_session_feed(session, part.as_ptr(), part.len(), out.as_mut_ptr(), out.len()) }
+}
+
+pub fn end(session: Session) -> Step {
+    unsafe { raw::yokebean_session_end(session) }
 }
 
 pub fn report(session: Session, out: &mut [u8]) -> Step {

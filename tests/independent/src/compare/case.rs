@@ -3,6 +3,7 @@
 //! isomorphisms that do not undo each other.
 
 use super::sizes;
+use crate::document::held::{Held, Pair};
 use crate::document::{self, model::Model, polynomial};
 use crate::random::Random;
 
@@ -14,6 +15,14 @@ pub struct Case {
     pub t2: Vec<u16>,
     pub s: Vec<u16>,
     pub r: Vec<u16>,
+}
+
+impl Case {
+    /// What a session holds that is paired with it.
+    pub fn held(&self) -> Held {
+        let Case { p, n, t1, t2, s, r } = self.clone();
+        Held::Paired(Pair { p, n, t1, t2, s, r })
+    }
 }
 
 /// T2 is T1(aX + b) up to a factor, with S = aX + b and R = (X − b)/a: the congruences hold whether T1 has divisors or not.

@@ -55,8 +55,9 @@ impl Found {
     fn compare_tables(&mut self, random: &mut Random, [a, b, c]: [usize; 3], tally: &mut Tally) {
         let table = random.uniform(self.p, 3 * self.n);
         let sessions = &mut self.sessions;
-        let mut convert =
-            |forward: bool, [from, to]: [usize; 2], table: &[u16]| sessions[from][to].convert(forward, table, vec![0; table.len()], tally);
+        let mut convert = |forward: bool, [from, to]: [usize; 2], table: &[u16]| {
+            sessions[from][to].convert(forward, table, vec![0; table.len()], tally).1
+        };
         let (halfway, halfway_back) = (convert(true, [a, b], &table), convert(false, [b, c], &table));
         let composed = (convert(true, [b, c], &halfway), convert(false, [a, b], &halfway_back));
         let direct = (convert(true, [a, c], &table), convert(false, [a, c], &table));

@@ -1,100 +1,112 @@
-//! The session as a value: what is held, with the models and the pair in vectors, and the ledger of request S-2 as a list of its records.
+//! The session as a value: what is held, the ledger of request S-2 as a list of its records, and the open table of request S-8 with the session that
+//! waits meanwhile.
 
-use super::{check, finder, finder_number, first, list_number, model::Model, model_number};
-
-#[derive(Clone, Debug, PartialEq)]
-pub enum Held {
-    Empty,
-    Loaded { p: u32, n: u32, t1: Vec<u16>, t2: Vec<u16> },
-    Paired { p: u32, n: u32, t1: Vec<u16>, t2: Vec<u16>, s: Vec<u16>, r: Vec<u16> },
-}
+use super::held::{accepted, Held};
 
 /// A record is whether the conversion was forward, and its number of residues.
 #[derive(Clone, Debug, PartialEq)]
 pub struct Session {
     pub held: Held,
     pub ledger: Vec<(bool, u32)>,
+    pub open: Option<OpenTable>,
+}
+
+/// Its direction, the residues that were fed so far, and what the waiting session holds.
+#[derive(Clone, Debug, PartialEq)]
+pub struct OpenTable {
+    pub forward: bool,
+    pub fed: u32,
+    pub waiting: Held,
 }
 
 /// A call's number, and the next session where it is 0.
 pub type Step = Result<Session, u32>;
 
+/// The same, with what a conversion writes.
+pub type Conversion = Result<(Vec<u16>, Session), u32>;
+
 impl Session {
     pub fn new() -> Self {
-        Session { held: Held::Empty, ledger: Vec::new() }
+        Session { held: Held::Empty, ledger: Vec::new(), open: None }
     }
 
-    /// What is held becomes another; the ledger stays.
+    /// "While a table is open, load, propose and find act on a waiting session."
+    pub fn acted_on(&self) -> &Held {
+        self.open.as_ref().map_or(&self.held, |table| &table.waiting)
+    }
+
+    /// What load, propose and find act on becomes another; all else stays.
     fn holding(&self, held: Held) -> Self {
-        Session { held, ledger: self.ledger.clone() }
-    }
-
-    fn accepted(&self, number: u32, next: impl FnOnce() -> Held) -> Step {
-        if number == 0 {
-            Ok(self.holding(next()))
-        } else {
-            Err(number)
+        let mut next = self.clone();
+        match &mut next.open {
+            Some(table) => table.waiting = held,
+            None => next.held = held,
         }
+        next
     }
 
     pub fn load(&self, p: u32, n: u32, t1: &[u16], t2: &[u16]) -> Step {
-        if self.held != Held::Empty {
-            return Err(23);
-        }
-        let number = first(&[&|| model_number(p, n), &|| list_number(p, n, &[t1, t2], &[])]);
-        self.accepted(number, || Held::Loaded { p, n, t1: t1.to_vec(), t2: t2.to_vec() })
+        self.acted_on().load(p, n, t1, t2).map(|held| self.holding(held))
     }
 
     pub fn propose(&self, s: &[u16], r: &[u16]) -> Step {
-        match &self.held {
-            Held::Empty => Err(21),
-            Held::Paired { .. } => Err(24),
-            Held::Loaded { p, n, t1, t2 } => self.accepted(check(*p, *n, t1, t2, s, r), || self.held.with_pair(s.to_vec(), r.to_vec())),
-        }
+        self.acted_on().propose(s, r).map(|held| self.holding(held))
     }
 
     pub fn find(&self) -> Step {
-        match &self.held {
-            Held::Empty => Err(21),
-            Held::Paired { .. } => Err(24),
-            Held::Loaded { p, n, t1, t2 } => self.accepted(finder_number(*p, *n, t1, t2), || {
-                let pair = finder::pair(*p, t1, t2);
-                self.held.with_pair(pair.s, pair.r)
-            }),
-        }
+        self.acted_on().find().map(|held| self.holding(held))
     }
 
-    /// A conversion's number; where it is 0, the output and the next session: "every conversion that succeeds adds one record".
-    pub fn convert(&self, forward: bool, table: &[u16], lent: usize) -> Result<(Vec<u16>, Session), u32> {
-        let (p, n, t1, t2, s, r) = match &self.held {
-            Held::Empty => return Err(21),
-            Held::Loaded { .. } => return Err(22),
-            Held::Paired { p, n, t1, t2, s, r } => (p, n, t1, t2, s, r),
-        };
-        let n = *n as usize;
-        if table.len() > 32_768 || table.len() % n != 0 {
-            return Err(9);
-        }
-        if lent != table.len() {
-            return Err(10);
-        }
-        if table.iter().any(|&word| u32::from(word) >= *p) {
-            return Err(4);
-        }
-        if self.ledger.len() == 512 {
-            return Err(25);
-        }
-        let (modulus, image) = if forward { (t2, s) } else { (t1, r) };
-        let model = Model::new(*p, modulus);
-        let groups = table.chunks(n);
+    fn unless_open(&self) -> Result<(), u32> {
+        accepted(if self.open.is_some() { 27 } else { 0 })
+    }
+
+    fn unless_full(&self) -> Result<(), u32> {
+        accepted(if self.ledger.len() == 512 { 25 } else { 0 })
+    }
+
+    fn recorded(&self, forward: bool, residues: u32) -> Self {
         let mut next = self.clone();
-        next.ledger.push((forward, groups.len() as u32));
-        Ok((groups.flat_map(|group| model.substitute(image, group)).collect(), next))
+        next.ledger.push((forward, residues));
+        next
     }
 
-    /// "Clear keeps the ledger."
+    /// "Every conversion that succeeds adds one record."
+    pub fn convert(&self, forward: bool, table: &[u16], lent: usize) -> Conversion {
+        let pair = self.held.pair()?;
+        self.unless_open()?;
+        accepted(pair.table_number(table, lent, u32::MAX))?;
+        self.unless_full()?;
+        Ok((pair.images(forward, table), self.recorded(forward, pair.residues(table) as u32)))
+    }
+
+    /// "Begin opens a table in one direction"; "a waiting session that starts empty".
+    pub fn begin(&self, forward: bool) -> Step {
+        self.held.pair()?;
+        self.unless_open()?;
+        self.unless_full()?;
+        Ok(Session { open: Some(OpenTable { forward, fed: 0, waiting: Held::Empty }), ..self.clone() })
+    }
+
+    /// "A feed that would bring its table above 4,294,967,295 residues is a 9."
+    pub fn feed(&self, part: &[u16], lent: usize) -> Conversion {
+        let table = self.open.as_ref().ok_or(26u32)?;
+        let pair = self.held.pair()?;
+        accepted(pair.table_number(part, lent, u32::MAX - table.fed))?;
+        let fed = table.fed + pair.residues(part) as u32;
+        Ok((pair.images(table.forward, part), Session { open: Some(OpenTable { fed, ..table.clone() }), ..self.clone() }))
+    }
+
+    /// "End makes a paired waiting session the current one and drops one that is not paired."
+    pub fn end(&self) -> Step {
+        let table = self.open.as_ref().ok_or(26u32)?;
+        let held = if table.waiting.pair().is_ok() { &table.waiting } else { &self.held };
+        Ok(Session { held: held.clone(), open: None, ..self.recorded(table.forward, table.fed) })
+    }
+
+    /// "Clear keeps the ledger"; it "drops both and the open table, without a record".
     pub fn clear(&self) -> Session {
-        self.holding(Held::Empty)
+        Session { ledger: self.ledger.clone(), ..Session::new() }
     }
 
     /// The residues of the records of one direction.
@@ -120,14 +132,5 @@ impl Session {
 
     pub fn report_length(&self) -> usize {
         self.text().len()
-    }
-}
-
-impl Held {
-    fn with_pair(&self, s: Vec<u16>, r: Vec<u16>) -> Held {
-        match self.clone() {
-            Held::Loaded { p, n, t1, t2 } => Held::Paired { p, n, t1, t2, s, r },
-            other => other,
-        }
     }
 }
