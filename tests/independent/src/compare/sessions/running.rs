@@ -12,7 +12,7 @@ pub struct Running {
 }
 
 impl Running {
-    /// At begin, which took this session.
+    /// At begin, by the session that it took.
     pub fn begun(session: &Document, forward: bool) -> Self {
         Running { pair: session.held.pair().unwrap().clone(), forward, residues: 0 }
     }
