@@ -5,7 +5,6 @@ use cvalue::HeldValue;
 use cvalue::RecordValue;
 use cvalue::SessionValue;
 use cvalue::StepValue;
-use cvalue::answers::holding;
 use cvalue::answers::record_answers;
 use cvalue::answers::work_answers;
 use cvalue::sessions::counted_value;
@@ -17,6 +16,7 @@ use pairing::propose::propose as propose_held;
 use running::begin::begin as begin_table;
 use running::end::end as end_table;
 use running::feed::feed as feed_table;
+use session::holding::placed;
 use work::Work;
 use work::WorkStep;
 use work::addressed::addressed;
@@ -66,7 +66,11 @@ pub extern "C" fn yokebean_session_load(
 {
     let x = counted_value(session);
     let found = x.work;
-    holding(session, x, load_held(addressed(found), p, n, t1, t2))
+    work_answers(
+        session,
+        x.valid,
+        placed(found, load_held(addressed(found), p, n, t1, t2)),
+    )
 }
 
 // Loaded to paired, if the checker accepts: 0, or 21, 24, 3, 4, 6, 7, 8.
@@ -80,7 +84,11 @@ pub extern "C" fn yokebean_session_propose(
 {
     let x = counted_value(session);
     let found = x.work;
-    holding(session, x, propose_held(addressed(found), s, r))
+    work_answers(
+        session,
+        x.valid,
+        placed(found, propose_held(addressed(found), s, r)),
+    )
 }
 
 // Loaded to paired, with the finder's pair: 0, or 21, 24, 5, 6, 7.
@@ -90,7 +98,7 @@ pub extern "C" fn yokebean_session_find(session: SessionValue) -> StepValue
 {
     let x = counted_value(session);
     let found = x.work;
-    holding(session, x, find_held(addressed(found)))
+    work_answers(session, x.valid, placed(found, find_held(addressed(found))))
 }
 
 // out := the images of a table of residues modulo T1, by S, modulo T2: 0, or 21, 22, 27, 9, 10, 4, 25.

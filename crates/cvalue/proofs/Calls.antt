@@ -21,7 +21,7 @@ use Rattle.work.specs.declared.counted.CountsAs.{CountsAs}
 use Rattle.conversion.specs.Conversion as Conversion
 use Rattle.running.specs.OverPair.{OverPair}
 use Rattle.running.specs.Running as Running
-use Rattle.session.specs.Session.{stepWith, holding, load, propose, find, recordWith, convert, convertOutput, begin, feed, feedOutput, end, report, clear}
+use Rattle.session.specs.Session.{stepWith, placed, load, propose, find, recordWith, convert, convertOutput, begin, feed, feedOutput, end, report, clear}
 use Rattle.session.specs.declared.Session.{Session}
 use Rattle.session.specs.declared.Step.{Step}
 use Rattle.session.proofs.Calls as Calls
@@ -38,15 +38,15 @@ module _ (v : SessionValue) (c : CountsAs) (e : c ≡ countsValue v) where
   pub open-over-pair : OverPair (c .work)
   open-over-pair = Calls.over-pair (sessionOf v) (c .work) (value-work v c e)
 
-  module _ (y : HeldStep) (r : StepValue) (a : r ≡ stepOf v (holding (sessionOf v) y)) (z : Held) (g : z ≡ addressed (c .work)) where
+  module _ (z : Held) (g : z ≡ addressed (c .work)) (y : HeldStep) (u : WorkStep) (f : u ≡ placed (c .work) y) (r : StepValue) (a : r ≡ stepOf v (stepWith (sessionOf v) u)) where
     pub load-gives : (p n : ℕ) (t1 t2 : List ℕ) → y ≡ Pairing.load z p n t1 t2 → r ≡ stepOf v (load (sessionOf v) p n t1 t2)
-    load-gives = Calls.load-answers (stepOf v) (sessionOf v) r (c .work) (value-work v c e) z g y a
+    load-gives = Calls.load-answers (stepOf v) (sessionOf v) r (c .work) (value-work v c e) z g y u f a
 
     pub propose-gives : (s t : List ℕ) → y ≡ Pairing.propose z s t → r ≡ stepOf v (propose (sessionOf v) s t)
-    propose-gives = Calls.propose-answers (stepOf v) (sessionOf v) r (c .work) (value-work v c e) z g y a
+    propose-gives = Calls.propose-answers (stepOf v) (sessionOf v) r (c .work) (value-work v c e) z g y u f a
 
     pub find-gives : y ≡ Pairing.find z → r ≡ stepOf v (find (sessionOf v))
-    find-gives = Calls.find-answers (stepOf v) (sessionOf v) r (c .work) (value-work v c e) z g y a
+    find-gives = Calls.find-answers (stepOf v) (sessionOf v) r (c .work) (value-work v c e) z g y u f a
 
   pub begin-gives : (d : Direction) (y : WorkStep) → y ≡ Running.begin d (c .work) (c .count) → (r : StepValue) → r ≡ stepOf v (stepWith (sessionOf v) y)
       → r ≡ stepOf v (begin d (sessionOf v))

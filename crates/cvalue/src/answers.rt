@@ -5,16 +5,13 @@ use crate::holdings::held_value;
 use crate::records::record_value;
 use crate::tables::fed_number;
 use crate::tables::open_number;
-use pairing::HeldStep;
 use work::RecordStep;
 use work::Work;
 use work::WorkStep;
-use work::addressed::with_addressed;
-use work::counted::CountsAs;
 ghost use mathlib.Core.Path.{_≡_};
-ghost use Rattle.session.specs.Session.{stepWith, holding as holdingOf, recordWith};
+ghost use Rattle.session.specs.Session.{stepWith, recordWith};
 ghost use Rattle.cvalue.specs.Values.{sessionOf, valueWith, stepOf};
-ghost use Rattle.cvalue.specs.Inner.{validValue, countsValue, Recordable};
+ghost use Rattle.cvalue.specs.Inner.{validValue, Recordable};
 
 // The value with another for all but its ledger, of which so many records count.
 fn with_work(mut v: SessionValue, work: Work, records: u32) -> SessionValue
@@ -55,20 +52,6 @@ pub fn work_answers(v: SessionValue, valid: bool, y: WorkStep) -> StepValue
         number: 0,
         session: with_work(v, work, v.records),
     }
-}
-
-// The answer where the session that the call acts on answers y.
-pub fn holding(v: SessionValue, x: CountsAs, y: HeldStep) -> StepValue
-    requires { ⌜ x ≡ countsValue v ⌝ }
-    ensures { λ r. ⌜ r ≡ stepOf v (holdingOf (sessionOf v) y) ⌝ }
-{
-    let work = x.work;
-    let held = y.held;
-    let answer = WorkStep {
-        number: y.number,
-        work: with_addressed(work, held),
-    };
-    work_answers(v, x.valid, answer)
 }
 
 // The answer of a call that adds a record: it stands behind those that count.

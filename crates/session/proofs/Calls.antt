@@ -1,6 +1,6 @@
 -- The calls, by what the session x counts as: all of it but the ledger is w, and k of its records count. An answer is shown as F of it, so that these
 -- laws serve sessions as C has them too.
---   holding-answers   load, propose and find, by the session that they act on; load-answers, propose-answers, find-answers
+--   load-answers, propose-answers, find-answers    by the session that they act on
 --   convert-answers, convert-writes, begin-answers, feed-answers, feed-writes, end-answers, clear-answers
 --   held-valid, over-pair           what the functions below these calls ask for
 --   Recording x                     a record is added to x: it counts as paired and has room; convert-records, end-records
@@ -16,7 +16,7 @@ use Rattle.pairing.specs.Pairing as Pairing
 use Rattle.pairing.specs.declared.HeldStep.{HeldStep}
 use Rattle.ledger.specs.Ledger.{mostRecords}
 use Rattle.ledger.specs.declared.Direction.{Direction}
-use Rattle.work.specs.Work.{newWork, isPaired, addressed, withAddressed}
+use Rattle.work.specs.Work.{newWork, isPaired, addressed}
 use Rattle.work.specs.declared.RecordStep.{RecordStep}
 use Rattle.work.specs.declared.Work.{Work}
 use Rattle.work.specs.declared.WorkStep.{WorkStep}
@@ -26,26 +26,25 @@ use Rattle.running.specs.Running as Running
 use Rattle.running.specs.OverPair.{OverPair}
 use Rattle.running.proofs.Numbers.{end-zero}
 use Rattle.session.specs.Room.{Room}
-use Rattle.session.specs.Session.{counted, answer, stepWith, holding, load, propose, find, recordWith, convert, convertOutput, begin, feed, feedOutput, end, clear}
+use Rattle.session.specs.Session.{counted, answer, stepWith, placed, holding, load, propose, find, recordWith, convert, convertOutput, begin, feed, feedOutput, end, clear}
 use Rattle.session.specs.declared.Session.{Session}
 use Rattle.session.specs.declared.Step.{Step}
 use Rattle.session.proofs.CountsAs.{counted-itself, counted-parts, paired-itself}
 
 module _ {A : Type 0} (F : Step → A) (x : Session) (r : A) where
   module _ (w : Work) (f : w ≡ counted x .work) where
-    pub holding-answers : (y : HeldStep) (v : Work) → v ≡ withAddressed w (y .held) → r ≡ F (stepWith x (record { number = y .number; work = v }))
-        → r ≡ F (holding x y)
-    holding-answers y v g a = a ∙ ap (λ u. F (stepWith x (record { number = y .number; work = u }))) (g ∙ ap (λ u. withAddressed u (y .held)) f)
+    module _ (z : Held) (g : z ≡ addressed w) (y : HeldStep) (u : WorkStep) (e : u ≡ placed w y) (a : r ≡ F (stepWith x u)) where
+      in-its-place : r ≡ F (holding x y)
+      in-its-place = a ∙ ap (λ v. F (stepWith x v)) (e ∙ ap (λ v. placed v y) f)
 
-    module _ (z : Held) (g : z ≡ addressed w) (y : HeldStep) (a : r ≡ F (holding x y)) where
       pub load-answers : (p n : ℕ) (t1 t2 : List ℕ) → y ≡ Pairing.load z p n t1 t2 → r ≡ F (load x p n t1 t2)
-      load-answers p n t1 t2 h = a ∙ ap (λ u. F (holding x u)) (h ∙ ap (λ u. Pairing.load u p n t1 t2) (g ∙ ap addressed f))
+      load-answers p n t1 t2 h = in-its-place ∙ ap (λ v. F (holding x v)) (h ∙ ap (λ v. Pairing.load v p n t1 t2) (g ∙ ap addressed f))
 
       pub propose-answers : (s t : List ℕ) → y ≡ Pairing.propose z s t → r ≡ F (propose x s t)
-      propose-answers s t h = a ∙ ap (λ u. F (holding x u)) (h ∙ ap (λ u. Pairing.propose u s t) (g ∙ ap addressed f))
+      propose-answers s t h = in-its-place ∙ ap (λ v. F (holding x v)) (h ∙ ap (λ v. Pairing.propose v s t) (g ∙ ap addressed f))
 
       pub find-answers : y ≡ Pairing.find z → r ≡ F (find x)
-      find-answers h = a ∙ ap (λ u. F (holding x u)) (h ∙ ap Pairing.find (g ∙ ap addressed f))
+      find-answers h = in-its-place ∙ ap (λ v. F (holding x v)) (h ∙ ap Pairing.find (g ∙ ap addressed f))
 
     pub feed-answers : (table out : List ℕ) (y : WorkStep) → y ≡ Running.feed w table out → r ≡ F (stepWith x y) → r ≡ F (feed x table out)
     feed-answers table out y h a = a ∙ ap (λ u. F (stepWith x u)) (h ∙ ap (λ u. Running.feed u table out) f)

@@ -5,7 +5,8 @@
 --   withWork x w                x with w for all but the ledger
 --   answer k next taken         number k: the next session where k is 0, else the session taken
 --   stepWith x y                the answer of a call that changes all but the ledger
---   holding x y                 the answer where the session that the call acts on, the waiting one while a table is open, answers y
+--   placed w y                  the answer y of the session that a call acts on, the waiting one while a table is open, in its place in w
+--   holding x y                 the answer of a call that acts on that session
 --   load x p n t1 t2            load: empty to loaded; 23, 1 to 4
 --   propose x s r               propose S, R: loaded to paired if the checker accepts; 21, 24, 3, 4, 6, 7, 8
 --   find x                      find: loaded to paired with the finder's pair; 21, 24, 5, 6, 7
@@ -66,8 +67,11 @@ answer (suc k) next taken = record { number = suc k; session = taken }
 unfoldable pub stepWith : Session → WorkStep → Step
 stepWith x y = answer (y .number) (withWork (counted x) (y .work)) x
 
+abbrev pub placed : Work → HeldStep → WorkStep
+placed w y = record { number = y .number; work = withAddressed w (y .held) }
+
 abbrev pub holding : Session → HeldStep → Step
-holding x y = stepWith x (record { number = y .number; work = withAddressed (counted x .work) (y .held) })
+holding x y = stepWith x (placed (counted x .work) y)
 
 abbrev pub load : Session → ℕ → ℕ → List ℕ → List ℕ → Step
 load x p n t1 t2 = holding x (Pairing.load (addressed (counted x .work)) p n t1 t2)

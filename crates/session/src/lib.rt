@@ -4,7 +4,7 @@
 //   holding   Session::load, Session::propose and Session::find
 //   tables    Session::forward and Session::back; Session::begin, Session::feed and Session::end for a table in parts
 //   report    Session::report and Session::report_length: the ledger's text
-mod holding;
+pub mod holding;
 mod report;
 mod tables;
 

@@ -1,6 +1,5 @@
 -- Answers as values: a refused call gives back the value that it took, and an accepted one the next value.
 --   step-refused, step-new, step-next       a call that changes all but the ledger, of a value that counts as new and of one that counts as itself
---   holding-gives                           load, propose and find, by the session that they act on
 --   record-refused, record-next             a call that adds a record
 --   room-left, count-fits                   then the record has room
 use mathlib.Core.Path.{_≡_, refl, sym, ap, _∙_}
@@ -11,22 +10,16 @@ use borrow.Author.Tests.{not-true, not-false}
 use lib.ListN.{length, set}
 use mir.Syntax.{w32}
 use mir.Val.{Fits}
-use Rattle.pairing.specs.declared.HeldStep.{HeldStep}
 use Rattle.ledger.specs.Ledger.{mostRecords, added}
-use Rattle.work.specs.Work.{withAddressed}
 use Rattle.work.specs.declared.RecordStep.{RecordStep}
-use Rattle.work.specs.declared.Work.{Work}
 use Rattle.work.specs.declared.WorkStep.{WorkStep}
-use Rattle.work.specs.declared.counted.CountsAs.{CountsAs}
-use Rattle.session.specs.Session.{withWork, answer, stepWith, holding, recordWith}
+use Rattle.session.specs.Session.{withWork, answer, stepWith, recordWith}
 use Rattle.session.specs.declared.Session.{Session}
-use Rattle.session.proofs.Calls.{holding-answers}
-use Rattle.cvalue.specs.Inner.{validValue, countsValue, Recordable}
+use Rattle.cvalue.specs.Inner.{validValue, Recordable}
 use Rattle.cvalue.specs.Values.{recordValue, over, ledgerOf, sessionOf, valueWith, valueOn, answerOf, stepOf}
 use Rattle.cvalue.specs.declared.RecordValue.{RecordValue}
 use Rattle.cvalue.specs.declared.SessionValue.{SessionValue}
-use Rattle.cvalue.specs.declared.StepValue.{StepValue}
-use Rattle.cvalue.proofs.Counting.{valid-made, counted-ledger, counted-new, value-work}
+use Rattle.cvalue.proofs.Counting.{valid-made, counted-ledger, counted-new}
 use Rattle.cvalue.proofs.Placed.{placed, own-placed, added-placed}
 
 -- by the number
@@ -65,11 +58,6 @@ module _ (v : SessionValue) (y : WorkStep) where
         (f
         ∙ ap (valueWith (y .work) (v .records)) (sym (own-placed v long (valid-made v valid)))
         ∙ ap (λ l. valueWith (y .work) (l .count) (placed l v)) (sym (counted-ledger v valid)))
-
--- the session that the call acts on answers y
-pub holding-gives : (v : SessionValue) (c : CountsAs) → c ≡ countsValue v → (y : HeldStep) (u : Work) → u ≡ withAddressed (c .work) (y .held) → (r : StepValue)
-    → r ≡ stepOf v (stepWith (sessionOf v) (record { number = y .number; work = u })) → r ≡ stepOf v (holding (sessionOf v) y)
-holding-gives v c e y u f r = holding-answers (stepOf v) (sessionOf v) r (c .work) (value-work v c e) y u f
 
 -- a record is added
 module _ (v : SessionValue) (y : RecordStep) where

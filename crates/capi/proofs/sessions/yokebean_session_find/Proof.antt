@@ -1,6 +1,7 @@
 -- The answer of the session that the call acts on.
 use borrow.Author.Needs.{needs}
 use Rattle.cvalue.proofs.Calls.{find-gives}
+use Rattle.cvalue.proofs.Counting.{value-valid}
 use Rattle.capi.proofs.sessions.yokebean_session_find.Statement.{statement}
 use Rattle.capi.proofs.sessions.yokebean_session_find.Tie as tie
 
@@ -13,8 +14,11 @@ addressed-requires c κs = search needs
 find-requires : tie.Need-find-requires
 find-requires c κs = search needs
 
-holding-requires : tie.Need-holding-requires
-holding-requires c κs = search needs
+placed-requires : tie.Need-placed-requires
+placed-requires c κs = search needs
+
+work-answers-requires : tie.Need-work-answers-requires
+work-answers-requires c κs = search value-valid
 
 returns : tie.Need-returns
 returns c = search find-gives
@@ -22,4 +26,10 @@ returns c = search find-gives
 pub yokebean-session-find-spec : {M : Type 1} → statement M
 yokebean-session-find-spec =
     tie.close
-    (tie.spec counted-value-requires addressed-requires find-requires holding-requires returns)
+    (tie.spec
+    counted-value-requires
+    addressed-requires
+    find-requires
+    placed-requires
+    work-answers-requires
+    returns)

@@ -2,7 +2,7 @@
 use borrow.Author.Needs.{needs}
 use Rattle.session.specs.declared.Step.{Step}
 use Rattle.session.proofs.Calls.{propose-answers}
-use Rattle.session.proofs.CountsAs.{work-is}
+use Rattle.session.proofs.CountsAs.{valid-is, work-is}
 use Rattle.session.proofs.Session.propose.Statement.{statement}
 use Rattle.session.proofs.Session.propose.Tie as tie
 
@@ -15,11 +15,22 @@ addressed-requires c κs = search needs
 propose-requires : tie.Need-propose-requires
 propose-requires c κs = search needs
 
-holding-requires : tie.Need-holding-requires
-holding-requires c κs = search needs
+placed-requires : tie.Need-placed-requires
+placed-requires c κs = search needs
+
+step-with-requires : tie.Need-step-with-requires
+step-with-requires c κs = search valid-is
 
 returns : tie.Need-returns
 returns c = search (propose-answers (λ (y : Step). y), work-is)
 
 pub propose-spec : {M : Type 1} → statement M
-propose-spec = tie.close (tie.spec counted-requires addressed-requires propose-requires holding-requires returns)
+propose-spec =
+    tie.close
+    (tie.spec
+    counted-requires
+    addressed-requires
+    propose-requires
+    placed-requires
+    step-with-requires
+    returns)
