@@ -9,13 +9,13 @@ enum-told : tie.Need-enum-told
 enum-told c = search needs
 
 convert-words-requires : tie.Need-convert-words-requires
-convert-words-requires c κs = (search forward-valid, search needs)
+convert-words-requires c κs = (search (forward-valid, back-valid), search needs)
 
 enum-told-2 : tie.Need-enum-told-2
 enum-told-2 c = search needs
 
 convert-words-requires-2 : tie.Need-convert-words-requires-2
-convert-words-requires-2 c κs = (search back-valid, search needs)
+convert-words-requires-2 c κs = (search (forward-valid, back-valid), search needs)
 
 same-length : tie.Need-same-length
 same-length c = search needs
