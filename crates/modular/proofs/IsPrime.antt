@@ -1,4 +1,4 @@
--- The test `isPrime` accepts p exactly when p is a prime up to 65,535.
+-- The test `isPrime` accepts p exactly when p is a prime up to 1,048,575.
 --   indivisible p d   the test that d does not divide p
 use mathlib.Core.Path.{_≡_, refl, sym, ap}
 use mathlib.Core.Bool.{Bool, true, false, not, _&&_, and-eq-true-iff}
