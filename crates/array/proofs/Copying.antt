@@ -7,7 +7,7 @@ use native.Mathlib.Nat as Nat
 use native.Mathlib.Omega.{arith}
 use lib.ListN.{length, getD, take, set, replicate}
 use lib.Seq.{take-length, drop-length}
-use mir.Syntax.{w16}
+use mir.Syntax.{w32}
 use mir.Val.{Fits}
 use Rattle.array.specs.Array.{padded, Holds}
 use Rattle.array.proofs.Painted.{painted, table, painted-is, painted-length, painted-turn}
@@ -44,5 +44,5 @@ pub store-done : (j : ℕ) (w xs xs′ : List ℕ) → length xs ≤ 16 → Hold
     → xs′ ≡ take (length xs) w
 store-done j w xs xs′ b h l m e = copy-done j w xs xs′ (array-fits (length xs) w b (h .zeros)) l m e
 
-pub store-fits : (j : ℕ) (w xs xs′ : List ℕ) → Holds wordBound (length xs) w → length xs′ ≡ length xs → j < length xs′ → Fits w16 (getD w j 0)
+pub store-fits : (j : ℕ) (w xs xs′ : List ℕ) → Holds wordBound (length xs) w → length xs′ ≡ length xs → j < length xs′ → Fits w32 (getD w j 0)
 store-fits j w xs xs′ h e l = record { fits = holds-word h j (omega arith) }

@@ -47,6 +47,6 @@ module _ (p : ℕ) (xs : List ℕ) (i a : ℕ) (e : allBelow p xs ≡ (ltb a p &
   pub below-smaller : (b : ℕ) → i < length xs → getD xs i 0 ≤ a → b ≡ a → allBelow p xs ≡ (ltb b p && allBelow p (drop (i + 1) xs))
   below-smaller b h l f = rw f (next h ∙ smaller-follows p a (getD xs i 0) _ l)
 
-  pub below-decided : (b : ℕ) → length xs ≤ i → b ≡ a → ltb b p ≡ allBelow p xs
+  pub below-decided : length xs ≤ i → ltb a p ≡ allBelow p xs
   unfolding allBelow all
-  below-decided b h f = rw f (sym (e ∙ ap (λ l. ltb a p && all (λ x. ltb x p) l) (drop-of-length-le xs h) ∙ and-true (ltb a p)))
+  below-decided h = sym (e ∙ ap (λ l. ltb a p && all (λ x. ltb x p) l) (drop-of-length-le xs h) ∙ and-true (ltb a p))

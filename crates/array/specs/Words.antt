@@ -1,7 +1,8 @@
--- Lists of words (document 01: "passed as n 16-bit words t0 to t(n−1), constant first, each below p").
+-- Lists of words (document 01: "passed as n 16-bit words t0 to t(n−1), constant first, each below p"; request S-9: "Words become 32 bits
+-- wide").
 --   Words p n u     u is n words, each below p
 --   allBelow p xs   the test that every word of xs is below p
---   wordBound       every word of a lent list is below this: 2^16
+--   wordBound       every word of a lent list is below this: 2^32
 use mathlib.Core.Bool.{Bool}
 use mathlib.Core.List.{List, [], _∷_}
 use Prim.Native.Nat.{ℕ, suc, _^_, _<_}
@@ -16,4 +17,4 @@ unfoldable pub allBelow : ℕ → List ℕ → Bool
 allBelow p xs = all (λ a. ltb a p) xs
 
 abbrev pub wordBound : ℕ
-wordBound = 2 ^ 16
+wordBound = 2 ^ 32

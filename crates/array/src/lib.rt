@@ -4,5 +4,5 @@
 pub mod copy;
 pub mod list;
 
-// A word of a list that a call is lent (document 01: "passed as n 16-bit words").
-pub type Word = u16;
+// A word of a list that a call is lent (document 01: "passed as n 16-bit words"; request S-9: "Words become 32 bits wide").
+pub type Word = u32;

@@ -3,13 +3,6 @@ ghost use mathlib.Core.Path.{_≡_};
 ghost use Rattle.array.specs.Words.{allBelow};
 use crate::Word;
 
-// A word as a number of 32 bits.
-fn wide(x: Word) -> u32
-    ensures { λ r. ⌜ r ≡ x ⌝ }
-{
-    x as u32
-}
-
 // Whether every word of xs is below p. The largest word decides: a search that stops at the first word that is not below p takes one word at a
 // time, the largest is found many words at a time.
 pub fn below(p: u32, xs: &[Word]) -> bool
@@ -26,5 +19,5 @@ pub fn below(p: u32, xs: &[Word]) -> bool
         }
         i += 1;
     }
-    wide(largest) < p
+    largest < p
 }

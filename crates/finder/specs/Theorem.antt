@@ -1,12 +1,12 @@
 -- Demand 3, whole. Read this file first; Finder.antt beside it has the finder's values, Theorem.antt of the crate pair the checker's half,
 -- Residue.antt, Map.antt and Divisor.antt of the crate quotient the residues, the maps and the divisors, and Prime.antt of the crate
 -- algebra the primes.
--- For every prime p up to 65,535, every n from 1 to 16 and all monic T1 and T2 of degree n:
+-- For every prime p up to 1,048,575, every n from 1 to 16 and all monic T1 and T2 of degree n:
 -- (a) an accepted pair's two maps preserve sums, products and one, and each undoes the other on every residue;
 -- (b) if n divides p − 1, or n = p^k with k ≥ 1, the finder, lent two lists of n words, returns a pair exactly when neither modulus has a monic divisor of
 --     degree 1 to n − 1, refuses with 6 exactly when T1 has one, and with 7 exactly when T1 has none and T2 has one; the pair that it
 --     returns is the one of Algorithm 2.1, and for n = p^k that of Algorithm 4.1, with the documents' choices, and the checker accepts it.
---   Models p n t1 t2 (of refusal)      p is a prime up to 65,535, n is 1 to 16, and t1 and t2 are n words below p each
+--   Models p n t1 t2 (of refusal)      p is a prime up to 1,048,575, n is 1 to 16, and t1 and t2 are n words below p each
 --   Smallest P p k (of algebra)        k is the smallest integer from 1 to p − 1 that satisfies P
 --   Alpha p n t z a u (of galois)      u is not zero, u^p = z·u and u^n = a modulo T, and of all such residues its first coefficient that is not zero is smallest
 --   Rounds p n t k a u (of galois)     a and u are a and α after k rounds of Algorithm 4.1 in the model T, with constant coefficient 0 in every round

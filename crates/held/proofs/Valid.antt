@@ -1,4 +1,4 @@
--- What 1, 2 and 4 do not refuse: p is a prime up to 65,535, n is 1 to 16, and the first n words of arrays are lists of n words below p.
+-- What 1, 2 and 4 do not refuse: p is a prime up to 1,048,575, n is 1 to 16, and the first n words of arrays are lists of n words below p.
 --   valid-degree, valid-size    the bounds of p and n
 --   valid-sent, sent-valid      lists of n words are valid exactly where 1 to 4 do not apply to them
 --   front-fits, front-models    the first n words of two arrays are there, and are models
@@ -29,7 +29,7 @@ valid-given p n xss h =
 pub valid-degree : (p n : ℕ) (xss : List (List ℕ)) → valid p n xss ≡ true → n ≤ largestDegree
 valid-degree p n xss h = degree-given n (valid-given p n xss h .1) .1
 
-pub valid-size : (p n : ℕ) (xss : List (List ℕ)) → valid p n xss ≡ true → (2 ≤ p) × (p ≤ 2 ^ 16) × (1 ≤ n) × (n ≤ 16)
+pub valid-size : (p n : ℕ) (xss : List (List ℕ)) → valid p n xss ≡ true → (2 ≤ p) × (p ≤ 2 ^ 20) × (1 ≤ n) × (n ≤ 16)
 valid-size p n xss h =
     let (prime, degree, _) = valid-given p n xss h in
     let (is-prime, small) = prime-given p prime in

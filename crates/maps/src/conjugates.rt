@@ -1,11 +1,11 @@
 // The conjugates S, S^p, S^(p²), … modulo T, by one matrix of u ↦ u^p. Each is inserted into the list of those before it, which stays in ascending order.
 ghost use mathlib.Core.List.{flatten};
 ghost use mathlib.Core.Path.{_≡_};
-ghost use Prim.Native.Nat.{_*_, _≤_};
+ghost use Prim.Native.Nat.{_*_, _^_, _≤_};
 ghost use lib.ListN.{length, take};
 ghost use Rattle.algebra.specs.Prime.{Prime};
 ghost use Rattle.array.specs.Array.{Holds};
-ghost use Rattle.array.specs.Words.{Words, wordBound};
+ghost use Rattle.array.specs.Words.{Words};
 ghost use Rattle.matrix.specs.Matrix.{Frobenius};
 ghost use Rattle.modular.specs.Barrett.{Reduces};
 ghost use Rattle.quotient.specs.Residue.{conjugate};
@@ -27,7 +27,7 @@ fn sorted_conjugates(
     out: &mut [Word],
 )
     requires { ⌜ Prime (d .p) ⌝ }
-    requires { ⌜ Reduces d × (d .p ≤ wordBound) × (n ≤ 16) × (length (now out) ≡ n * n) ⌝ }
+    requires { ⌜ Reduces d × (n ≤ 16) × (length (now out) ≡ n * n) ⌝ }
     requires { ⌜ Holds (d .p) n (now t) × Frobenius (d .p) n (take n (now t)) (now m) × Holds (d .p) n (now s) ⌝ }
     ensures { λ _. ⌜ now (out .exit) ≡ flatten (sorted (conjugate (d .p) (take n (now (t .entry))) (take n (now (s .entry)))) n) ⌝ }
 {
@@ -43,7 +43,7 @@ fn sorted_conjugates(
 // The same for lists of n words.
 pub fn write_conjugates(p: u32, n: u32, t: &[Word], s: &[Word], out: &mut [Word])
     requires { ⌜ Prime p ⌝ }
-    requires { ⌜ (p ≤ wordBound) × (1 ≤ n) × (n ≤ 16) × (length (now out) ≡ n * n) ⌝ }
+    requires { ⌜ (p ≤ 2 ^ 20) × (1 ≤ n) × (n ≤ 16) × (length (now out) ≡ n * n) ⌝ }
     requires { ⌜ Words p n (now t) × Words p n (now s) ⌝ }
     ensures { λ _. ⌜ now (out .exit) ≡ flatten (sorted (conjugate p (now (t .entry)) (now (s .entry))) n) ⌝ }
 {

@@ -1,6 +1,6 @@
 // The product of a matrix with a list of words, modulo p, into another list: for tables, where the divisor is worked out once for many products.
 ghost use mathlib.Core.Path.{_≡_};
-ghost use Prim.Native.Nat.{_%_, _^_, _≤_, _<_};
+ghost use Prim.Native.Nat.{_%_, _≤_, _<_};
 ghost use lib.ListN.{length};
 ghost use Rattle.array.specs.Words.{Words};
 ghost use Rattle.array.specs.Array.{Square, rowProduct};
@@ -29,7 +29,7 @@ fn dot_list(d: Barrett, n: usize, m: &[u64; 256], u: &[Word], i: usize) -> u64
 
 // The product with few words, which are read from the list for each row.
 fn multiply_few(d: Barrett, n: usize, m: &[u64; 256], u: &[Word], out: &mut [Word])
-    requires { ⌜ Reduces d × (d .p ≤ 2 ^ 16) × (n ≤ 16) × (length (now out) ≡ n) ⌝ }
+    requires { ⌜ Reduces d × (n ≤ 16) × (length (now out) ≡ n) ⌝ }
     requires { ⌜ Square (d .p) n (now m) × Words (d .p) n (now u) ⌝ }
     ensures { λ _. ⌜ now (out .exit) ≡ matrixProduct (d .p) n (now (m .entry)) (now (u .entry)) ⌝ }
 {
@@ -42,7 +42,7 @@ fn multiply_few(d: Barrett, n: usize, m: &[u64; 256], u: &[Word], out: &mut [Wor
 
 // The product with many words, which are loaded once for all rows.
 fn multiply_many(d: Barrett, n: usize, m: &[u64; 256], u: &[Word], out: &mut [Word])
-    requires { ⌜ Reduces d × (d .p ≤ 2 ^ 16) × (n ≤ 16) × (length (now out) ≡ n) ⌝ }
+    requires { ⌜ Reduces d × (n ≤ 16) × (length (now out) ≡ n) ⌝ }
     requires { ⌜ Square (d .p) n (now m) × Words (d .p) n (now u) ⌝ }
     ensures { λ _. ⌜ now (out .exit) ≡ matrixProduct (d .p) n (now (m .entry)) (now (u .entry)) ⌝ }
 {
@@ -56,7 +56,7 @@ fn multiply_many(d: Barrett, n: usize, m: &[u64; 256], u: &[Word], out: &mut [Wo
 
 // The product of a matrix with the n words of u.
 pub fn multiply(d: Barrett, n: usize, m: &[u64; 256], u: &[Word], out: &mut [Word])
-    requires { ⌜ Reduces d × (d .p ≤ 2 ^ 16) × (n ≤ 16) × (length (now out) ≡ n) ⌝ }
+    requires { ⌜ Reduces d × (n ≤ 16) × (length (now out) ≡ n) ⌝ }
     requires { ⌜ Square (d .p) n (now m) × Words (d .p) n (now u) ⌝ }
     ensures { λ _. ⌜ now (out .exit) ≡ matrixProduct (d .p) n (now (m .entry)) (now (u .entry)) ⌝ }
 {

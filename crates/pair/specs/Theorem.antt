@@ -1,9 +1,9 @@
 -- The checker's half of demand 3: what the answer 0 of `check` means. Read this file first; every name in it is explained here, in Pair.antt
 -- beside it, in Residue.antt, Map.antt and Divisor.antt of the crate quotient, in Words.antt of the crate array, in Models.antt of the crate refusal, or in
--- Prime.antt of the crate algebra. For every p, n and all lists: the answer is 0 exactly when p is a prime up to 65,535, n is 1 to 16, the four lists are n words below p, neither
+-- Prime.antt of the crate algebra. For every p, n and all lists: the answer is 0 exactly when p is a prime up to 1,048,575, n is 1 to 16, the four lists are n words below p, neither
 -- modulus has a monic divisor of degree 1 to n − 1 and the four congruences hold; and then every residue but 0 has an inverse on both sides, the two maps
 -- preserve sums, products and one on all residues, and each undoes the other.
---   Models p n t1 t2             (of refusal) p is a prime up to 65,535, n is 1 to 16, t1 and t2 are n words below p each
+--   Models p n t1 t2             (of refusal) p is a prime up to 1,048,575, n is 1 to 16, t1 and t2 are n words below p each
 --   Given p n t1 t2 s r          (of refusal) also s and r are n words below p each: what 1 to 4 do not refuse
 --   Fields p n t1 t2             neither modulus has a monic divisor of degree 1 to n − 1, and every residue but 0 has an inverse
 --   Isomorphisms p n t1 t2 s r   both maps preserve sums, products and one, and each undoes the other

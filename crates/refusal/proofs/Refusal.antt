@@ -1,6 +1,6 @@
 -- What it means that none of the refusals 1 to 4 applies (document 01, "Caused by what was sent").
 --   refuse-none                the number is 0: the first condition does not apply, and what comes after it is 0
---   prime-given, given-prime   1 does not apply exactly to the primes up to 65,535
+--   prime-given, given-prime   1 does not apply exactly to the primes up to 1,048,575
 --   degree-given, given-degree 2 does not apply exactly to 1 to 16
 --   Sent p n xss yss           1 to 4 do not apply to a call with the lists xss that reads yss
 --   sent-given, given-sent     that is so exactly where what comes after them decides

@@ -1,6 +1,6 @@
 -- A model, two models of one size, and a pair for them (document 01, "Models and residues"): what 1 to 4 do not refuse.
---   Model p n t        p is a prime up to 65,535, n is 1 to 16, and t is n words below p
---   Models p n t1 t2   p is a prime up to 65,535, n is 1 to 16, and t1 and t2 are n words below p each
+--   Model p n t        p is a prime up to 1,048,575, n is 1 to 16, and t is n words below p
+--   Models p n t1 t2   p is a prime up to 1,048,575, n is 1 to 16, and t1 and t2 are n words below p each
 --   Given p n t1 t2 s r    also s and r are n words below p each
 use mathlib.Core.List.{List}
 use Prim.Native.Nat.{ℕ, _≤_}

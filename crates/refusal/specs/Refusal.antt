@@ -1,6 +1,6 @@
 -- The refusals that calls share (document 01, "Caused by what was sent"). "The first that applies is returned."
 --   refuse k b rest      k where the condition b applies, else what comes after it; the last is 0, a call that succeeds
---   badPrime p           1: p is below 2, above 65,535 or not prime
+--   badPrime p           1: p is below 2, above 1,048,575 or not prime
 --   largestDegree        16
 --   isDegree n           n is 1 to 16
 --   badDegree n          2: n is not 1 to 16

@@ -27,7 +27,7 @@ pub fn put_coefficients(text: &mut [u8], at: usize, p: u32, u: &[Word]) -> usize
     let mut end = at;
     let mut i = 0;
     while i < u.len() {
-        end = put_right(text, end, 7, centred(p, u[i] as u32));
+        end = put_right(text, end, 7, centred(p, u[i]));
         i += 1;
     }
     end

@@ -15,7 +15,7 @@ ghost use Rattle.table.specs.Table.{eachGroup, converted, tableNumber};
 
 // The products of a matrix with the groups of a table, one after the other.
 fn convert_groups(d: Barrett, n: usize, m: &[u64; 256], table: &[Word], out: &mut [Word])
-    requires { ⌜ Reduces d × (d .p ≤ 2 ^ 16) × (1 ≤ n) × (n ≤ 16) ⌝ }
+    requires { ⌜ Reduces d × (1 ≤ n) × (n ≤ 16) ⌝ }
     requires { ⌜ Square (d .p) n (now m) ⌝ }
     requires { ⌜ tableNumber (d .p) n (now table) (now out) ≡ 0 ⌝ }
     ensures { λ _. ⌜ now (out .exit) ≡ eachGroup n (matrixProduct (d .p) n (now (m .entry))) (length (now (table .entry)) / n) (now (table .entry)) ⌝ }
@@ -30,7 +30,7 @@ fn convert_groups(d: Barrett, n: usize, m: &[u64; 256], table: &[Word], out: &mu
 
 // The images of a table's groups, where 9, 10 and 4 do not apply.
 pub fn convert(p: u32, n: u32, t: &[Word], s: &[Word], table: &[Word], out: &mut [Word])
-    requires { ⌜ (2 ≤ p) × (p ≤ 2 ^ 16) × (1 ≤ n) × (n ≤ 16) ⌝ }
+    requires { ⌜ (2 ≤ p) × (p ≤ 2 ^ 20) × (1 ≤ n) × (n ≤ 16) ⌝ }
     requires { ⌜ Words p n (now t) × Words p n (now s) ⌝ }
     requires { ⌜ tableNumber p n (now table) (now out) ≡ 0 ⌝ }
     ensures { λ _. ⌜ now (out .exit) ≡ converted p n (now (t .entry)) (now (s .entry)) (now (table .entry)) ⌝ }

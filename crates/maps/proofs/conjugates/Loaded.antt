@@ -5,7 +5,7 @@ use Prim.Native.Nat.{ℕ, _≤_}
 use lib.ListN.{take}
 use Rattle.algebra.specs.Prime.{Prime}
 use Rattle.array.specs.Array.{padded, Holds}
-use Rattle.array.specs.Words.{Words, wordBound}
+use Rattle.array.specs.Words.{Words}
 use Rattle.array.proofs.Padded.{front-is, holds-is}
 use Rattle.matrix.specs.Matrix.{Frobenius}
 use Rattle.quotient.specs.Residue.{conjugate}
@@ -17,9 +17,6 @@ loaded-holds p n u a e w = holds-is e w
 module _ (p q : ℕ) (same : q ≡ p) where
   pub divisor-prime : Prime p → Prime q
   divisor-prime h = rw same h
-
-  pub divisor-small : p ≤ wordBound → q ≤ wordBound
-  divisor-small h = rw same h
 
   pub divisor-holds : (n : ℕ) (u a : List ℕ) → a ≡ padded u → Words p n u → Holds q n a
   divisor-holds n u a e w = rw same (holds-is e w)

@@ -3,7 +3,7 @@
 --   sort-starts, sort-turn, sort-done   it holds before turn 0; a turn keeps it; after turn n the list has all n
 use mathlib.Core.Path.{_≡_, refl, sym, ap, ap₂, subst, _∙_}
 use mathlib.Core.List.{List, [], _∷_, _++_, flatten}
-use Prim.Native.Nat.{ℕ, suc, _+_, _*_, _≤_, _<_}
+use Prim.Native.Nat.{ℕ, suc, _+_, _*_, _^_, _≤_, _<_}
 use native.Mathlib.Nat as Nat
 use native.Mathlib.Numerals.{add-one}
 use native.Mathlib.Omega.{arith}
@@ -67,13 +67,13 @@ module _ (p n : ℕ) (t s : List ℕ) (prime : Prime p) (ht : Holds p n t) (hs :
     pub next-holds : Holds p n u
     next-holds = FrobeniusMatrix.conjugate-holds p n t (take n s) prime ht (hs .words) k u (c .next)
 
-    module _ (small : p ≤ wordBound) where
+    module _ (small : p ≤ 2 ^ 20) where
       pub next-word : Holds wordBound n u
-      next-word = holds-is (c .next) (words-up small (conjugate-words (prime .0) (ht .words) (hs .words) k))
+      next-word = holds-is (c .next) (words-up (omega arith) (conjugate-words (prime .0) (ht .words) (hs .words) k))
 
       pub rows-words : Words wordBound (k * n) (take (k * n) out)
       rows-words =
-          words-up small (subst (λ i. Words p (i * n) (take (k * n) out)) (sorted-length f k)
+          words-up (omega arith) (subst (λ i. Words p (i * n) (take (k * n) out)) (sorted-length f k)
           (subst (Words p (length (sorted f k) * n)) (sym (c .list)) (flatten-words p n (sorted f k) (each k))))
 
     -- the rows so far

@@ -1,26 +1,28 @@
 -- The loop that writes the words of a product into a list.
 use mathlib.Core.Path.{_≡_, sym, ap, _∙_}
 use mathlib.Core.List.{List, _++_, map, append-nil}
-use Prim.Native.Nat.{ℕ, _%_, _^_, _≤_, _<_}
+use Prim.Native.Nat.{ℕ, _%_, _≤_, _<_}
 use native.Mathlib.Nat as Nat
 use native.Mathlib.Omega.{arith}
 use lib.ListN.{length, take}
 use lib.Seq.{drop-length}
-use mir.Syntax.{w16}
+use mir.Syntax.{w32}
 use mir.Val.{Fits}
 use Rattle.algebra.specs.Lists.{range}
 use Rattle.array.specs.Words.{Words}
 use Rattle.array.specs.Array.{padded}
 use Rattle.array.proofs.Padded.{front-is}
 use Rattle.array.proofs.Painted.{painted, table, painted-is}
+use Rattle.modular.specs.Barrett.{Reduces}
+use Rattle.modular.specs.declared.barrett.Barrett.{Barrett}
 use Rattle.matrix.specs.Matrix.{matrixProduct}
 use Rattle.matrix.proofs.Filled.{table-range}
 use Rattle.matrix.proofs.product.ProductLoop.{productWord}
 
-pub word-fits : (p r x : ℕ) → 2 ≤ p → p ≤ 2 ^ 16 → r ≡ x % p → Fits w16 r
-word-fits p r x big small e =
-    let l : x % p < p = Nat.mod-lt x (omega arith) in
-    omega arith
+pub word-fits : (d : Barrett) (r x : ℕ) → Reduces d → r ≡ x % d .p → Fits w32 r
+word-fits d r x h e =
+    let l : x % d .p < d .p = Nat.mod-lt x (omega (arith, h .big)) in
+    omega (arith, h .small)
 
 module _ (p n i : ℕ) (m u out₀ out : List ℕ) (e : out ≡ painted out₀ (productWord p m u) i) where
   pub list-done : length out₀ ≡ n → i ≤ n → n ≤ i → out ≡ matrixProduct p n m u

@@ -30,8 +30,8 @@ end-small n i short l =
 pub start-fits : (n i : ℕ) → n ≤ 16 → i < n → Fits w64 (i * n)
 start-fits n i short l = record { fits = omega (arith, end-small n i short l) }
 
--- two bytes for each word
-pub bytes-fit : (n i : ℕ) → n ≤ 16 → i < n → Fits w64 (i * n * 2)
+-- four bytes for each word
+pub bytes-fit : (n i : ℕ) → n ≤ 16 → i < n → Fits w64 (i * n * 4)
 bytes-fit n i short l = record { fits = omega (arith, end-small n i short l) }
 
 pub end-fits : (n i : ℕ) → n ≤ 16 → i < n → Fits w64 (i * n + n)

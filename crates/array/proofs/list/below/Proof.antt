@@ -44,9 +44,6 @@ loop-less c = search needs
 loop-again : tie.Need-loop-again Inv-loop μ-loop
 loop-again c = (search needs, ⊎-elim (λ w. search below-larger) (λ w. search below-smaller) (c .if2 .came))
 
-wide-requires : tie.Need-wide-requires Inv-loop μ-loop
-wide-requires c κs = search needs
-
 returns-2 : tie.Need-returns-2 Inv-loop μ-loop
 returns-2 c = search below-decided
 
@@ -65,5 +62,4 @@ below-spec =
     add-i
     loop-less
     loop-again
-    wide-requires
     returns-2)

@@ -1,7 +1,7 @@
 -- T and S are loaded, and the matrix of u ↦ u^p is worked out once.
 use borrow.Author.Needs.{needs}
 use Rattle.array.proofs.Words.{words-short}
-use Rattle.maps.proofs.conjugates.Loaded.{loaded-holds, divisor-prime, divisor-small, divisor-holds, divisor-frobenius, conjugates-written}
+use Rattle.maps.proofs.conjugates.Loaded.{loaded-holds, divisor-prime, divisor-holds, divisor-frobenius, conjugates-written}
 use Rattle.maps.proofs.conjugates.write_conjugates.Statement.{statement}
 use Rattle.maps.proofs.conjugates.write_conjugates.Tie as tie
 
@@ -19,7 +19,7 @@ load-requires-2 c κs = search words-short
 
 sorted-conjugates-requires : tie.Need-sorted-conjugates-requires
 sorted-conjugates-requires c κs =
-    (search divisor-prime, ((search needs, search divisor-small, search needs, search needs), (search divisor-holds, search divisor-frobenius, search divisor-holds)))
+    (search divisor-prime, ((search needs, search needs, search needs), (search divisor-holds, search divisor-frobenius, search divisor-holds)))
 
 same-length : tie.Need-same-length
 same-length c = search needs

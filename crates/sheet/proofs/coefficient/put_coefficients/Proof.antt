@@ -2,7 +2,6 @@
 use borrow.Author.Needs.{needs}
 use mathlib.Core.Path.{_≡_, refl}
 use Prim.Native.Nat.{_-_, _≤_}
-use native.Mathlib.Omega.{arith}
 use lib.ListN.{length, take}
 use Rattle.text.specs.Text.{Appended}
 use Rattle.sheet.specs.Sheet.{columns}
@@ -24,9 +23,6 @@ mul-centred c = search needs
 
 shared-slice-read-centred : tie.Need-shared-slice-read-centred Inv-loop μ-loop
 shared-slice-read-centred c = search needs
-
-cast-centred : tie.Need-cast-centred Inv-loop μ-loop
-cast-centred c = omega (arith, c .shared-slice-known2 .given (c .before .before .before .loop .i))
 
 centred-requires : tie.Need-centred-requires Inv-loop μ-loop
 centred-requires c κs = (search next-below, search needs)
@@ -58,7 +54,6 @@ put-coefficients-spec =
     loop-holds
     mul-centred
     shared-slice-read-centred
-    cast-centred
     centred-requires
     put-right-requires
     add-i

@@ -19,7 +19,7 @@ new-requires : tie.Need-new-requires
 new-requires c κs = search needs
 
 convert-groups-requires : tie.Need-convert-groups-requires
-convert-groups-requires c κs = ((search needs, search needs, search needs, search needs), (search is-square, search same-number))
+convert-groups-requires c κs = ((search needs, search needs, search needs), (search is-square, search same-number))
 
 same-length : tie.Need-same-length
 same-length c = search needs

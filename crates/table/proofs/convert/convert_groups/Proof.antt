@@ -43,7 +43,7 @@ part-multiply-end-2 : tie.Need-part-multiply-end-2 Inv-loop μ-loop
 part-multiply-end-2 c = search (output-ends, needs)
 
 multiply-requires : tie.Need-multiply-requires Inv-loop μ-loop
-multiply-requires c κs = ((search needs, search needs, search needs, search output-part), (search needs, search part-words))
+multiply-requires c κs = ((search needs, search needs, search output-part), (search needs, search part-words))
 
 loop-less : tie.Need-loop-less Inv-loop μ-loop
 loop-less c = search needs
