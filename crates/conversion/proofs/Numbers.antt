@@ -52,8 +52,8 @@ module _ (h : Held) (e : isPaired (view h) ≡ true) where
   pub back-valid : valid (h .p) (h .n) (t1Of h ∷ rOf h ∷ []) ≡ true
   back-valid = maps-valid (h .p) (h .n) _ _ _ _ lists-valid .1
 
-  -- a table of up to 32,768 words has as many residues at most
-  pub residues-few : (table out : List ℕ) → tableNumber (h .p) (h .n) table out ≡ 0 → length table / h .n ≤ 32768
+  -- a table of up to 16,384 words has as many residues at most
+  pub residues-few : (table out : List ℕ) → tableNumber (h .p) (h .n) table out ≡ 0 → length table / h .n ≤ 16384
   residues-few table out t =
       omega (arith, degree-positive, Nat.div-le-self (length table) (h .n), Convertible.table-given (h .p) (h .n) table out t .few)
 

@@ -14,7 +14,7 @@ use Rattle.refusal.specs.Refusal.{refuse, badWord}
 use Rattle.quotient.specs.Residue.{substitute}
 
 abbrev pub mostWords : ℕ
-mostWords = 32768
+mostWords = 16384
 
 unfoldable pub eachGroup : ℕ → (List ℕ → List ℕ) → ℕ → List ℕ → List ℕ
 eachGroup n f zero table = []

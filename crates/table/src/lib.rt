@@ -5,4 +5,4 @@ pub mod convert;
 pub mod number;
 
 // The most words that one conversion takes.
-pub const WORDS: usize = 32768;
+pub const WORDS: usize = 16384;
