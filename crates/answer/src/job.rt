@@ -10,8 +10,7 @@ ghost use Rattle.answer.specs.Answer.{part};
 ghost use Rattle.answer.specs.JobWords.{JobWords};
 ghost use Rattle.text.specs.Text.{Appended, Begins};
 use array::Word;
-use card::layout::bit_count;
-use card::layout::width;
+use card::layout::byte_count;
 use finder::find::find;
 use writer::writer::write;
 
@@ -74,10 +73,10 @@ pub fn find_pair(p: u32, n: u32, words: &mut [Word]) -> u32
 
 // The pair card of the words, to which no refusal of the writer applies: how many bytes it has.
 pub fn write_card(p: u32, n: u32, words: &[Word], out: &mut [u8]) -> usize
-    requires { ⌜ (writeNumber p n 2 (now words) (replicate (cardLength p n 2) 0) ≡ 0) × (length (now out) ≡ 131) ⌝ }
+    requires { ⌜ (writeNumber p n 2 (now words) (replicate (cardLength p n 2) 0) ≡ 0) × (length (now out) ≡ 166) ⌝ }
     ensures { λ r. ⌜ Begins (card p n 2 (now (words .entry))) (now (out .exit)) r ⌝ }
 {
-    let size = (bit_count(width(p), words.len()) + 7) / 8;
+    let size = byte_count(p, words.len());
     write(p, n, 2, words, &mut out[..size]);
     size
 }

@@ -8,9 +8,9 @@ use text::bytes::put_byte;
 use text::decimal::put_decimal;
 use text::hexadecimal::put_hexadecimal;
 
-// `PAIR `, the card and a newline: at most 268 bytes.
+// `PAIR `, the card and a newline: at most 338 bytes.
 pub fn put_pair(text: &mut [u8], card: &[u8]) -> usize
-    requires { ⌜ (length (now card) ≤ 131) × (268 ≤ length (now text)) ⌝ }
+    requires { ⌜ (length (now card) ≤ 166) × (338 ≤ length (now text)) ⌝ }
     ensures { λ r. ⌜ Begins (pairText (now (card .entry))) (now (text .exit)) r ⌝ }
 {
     let start = put(text, 0, b"PAIR ");
@@ -20,7 +20,7 @@ pub fn put_pair(text: &mut [u8], card: &[u8]) -> usize
 
 // `VALID` and a newline.
 pub fn put_valid(text: &mut [u8]) -> usize
-    requires { ⌜ 268 ≤ length (now text) ⌝ }
+    requires { ⌜ 338 ≤ length (now text) ⌝ }
     ensures { λ r. ⌜ Begins validText (now (text .exit)) r ⌝ }
 {
     put(text, 0, b"VALID\n")
@@ -28,7 +28,7 @@ pub fn put_valid(text: &mut [u8]) -> usize
 
 // `RING` and a newline.
 pub fn put_ring(text: &mut [u8]) -> usize
-    requires { ⌜ 268 ≤ length (now text) ⌝ }
+    requires { ⌜ 338 ≤ length (now text) ⌝ }
     ensures { λ r. ⌜ Begins ringText (now (text .exit)) r ⌝ }
 {
     put(text, 0, b"RING\n")
@@ -36,7 +36,7 @@ pub fn put_ring(text: &mut [u8]) -> usize
 
 // `REFUSED `, the number and a newline.
 pub fn put_refusal(text: &mut [u8], number: u32) -> usize
-    requires { ⌜ 268 ≤ length (now text) ⌝ }
+    requires { ⌜ 338 ≤ length (now text) ⌝ }
     ensures { λ r. ⌜ Begins (refusedText number) (now (text .exit)) r ⌝ }
 {
     let start = put(text, 0, b"REFUSED ");

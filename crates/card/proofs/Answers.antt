@@ -1,12 +1,15 @@
 -- The reader's and the writer's answers: where the call is refused every field is 0 and the list is as it was, else they are what the
 -- card says.
 use mathlib.Core.Path.{_≡_, refl, sym, ap, ap₂, _∙_}
+use mathlib.Core.Bool.{Bool, false}
 use mathlib.Core.List.{List}
 use Prim.Native.Nat.{ℕ, zero, suc, _+_, _*_, _≤_}
 use native.Mathlib.Omega.{arith}
 use lib.ListN.{length}
 use Rattle.card.specs.Bits.{unpacked}
-use Rattle.card.specs.Card.{width, wordCount, cardLength, fieldAt, cardPrime, cardDegree, cardKind, cardWords, readNumber, readPrime, readDegree, readKind, readOutput, unlessRefused, card, writeNumber, writeOutput}
+use Rattle.card.specs.Card.{layout, headerBits, isOver, layoutAt, width, wordCount, cardLength, isWide, badHeader, cardPrime, cardDegree, cardKind, cardWords, readNumber, readPrime, readDegree, readKind, readOutput, unlessRefused, card, writeNumber, writeOutput}
+use Rattle.modular.specs.Prime.{largestPrime}
+use Rattle.card.proofs.Header.{header-bytes, layout-right}
 use Rattle.card.proofs.Fields.{fields-length}
 use Rattle.refusal.proofs.Written.{output-new, output-old}
 use Rattle.card.proofs.Entries.{entries}
@@ -46,40 +49,50 @@ module _ (ys out : List ℕ) (number : ℕ) (e : number ≡ readNumber ys out) w
     pub room-is : length out ≡ 64
     room-is = good .lent
 
-    pub header-there : 3 ≤ length ys
+    pub header-there : badHeader ys ≡ false
     header-there = good .header
 
-    pub accepted-prime : (p : ℕ) → p ≡ fieldAt (unpacked ys) 0 16 → p ≡ readPrime ys out
-    unfolding readPrime cardPrime
+    pub bytes-there : 2 ≤ length ys
+    bytes-there = omega (arith, header-bytes ys header-there)
+
+    pub accepted-number : (r : ℕ) → r ≡ 0 → r ≡ readNumber ys out
+    accepted-number r er = er ∙ sym accepted
+
+    pub accepted-prime : (p : ℕ) → p ≡ cardPrime ys → p ≡ readPrime ys out
+    unfolding readPrime
     accepted-prime p ep = ep ∙ rw accepted
 
-    pub accepted-degree : (m : ℕ) → m ≡ fieldAt (unpacked ys) 16 4 → m + 1 ≡ readDegree ys out
-    unfolding readDegree cardDegree
-    accepted-degree m em = ap (λ k. k + 1) em ∙ rw accepted
+    pub accepted-degree : (n : ℕ) → n ≡ cardDegree ys → n ≡ readDegree ys out
+    unfolding readDegree
+    accepted-degree n en = en ∙ rw accepted
 
-    pub accepted-kind : (kind : ℕ) → kind ≡ fieldAt (unpacked ys) 20 4 → kind ≡ readKind ys out
-    unfolding readKind cardKind
+    pub accepted-kind : (kind : ℕ) → kind ≡ cardKind ys → kind ≡ readKind ys out
+    unfolding readKind
     accepted-kind kind ek = ek ∙ rw accepted
 
-    module _ (p m kind w count : ℕ) (ep : p ≡ fieldAt (unpacked ys) 0 16) (em : m ≡ fieldAt (unpacked ys) 16 4) (ek : kind ≡ fieldAt (unpacked ys) 20 4) (ew : w ≡ width p) (counted : count ≡ wordCount (m + 1) kind) where
+    module _ (wide : Bool) (p n kind start w count : ℕ) (f : wide ≡ isWide ys) (ep : p ≡ cardPrime ys) (en : n ≡ cardDegree ys) (ek : kind ≡ cardKind ys)
+        (es : start ≡ headerBits (layout wide)) (ew : w ≡ width p) (counted : count ≡ wordCount n kind) where
       width-is : w ≡ width (cardPrime ys)
-      unfolding cardPrime
       width-is = ew ∙ ap width ep
 
       count-is : count ≡ wordCount (cardDegree ys) (cardKind ys)
-      unfolding cardDegree cardKind
-      count-is = counted ∙ ap₂ (λ a b. wordCount (a + 1) b) em ek
+      count-is = counted ∙ ap₂ (λ a b. wordCount a b) en ek
 
-      pub words-there : 24 + count * w ≤ 8 * length ys
+      start-is : start ≡ headerBits (layoutAt ys)
+      start-is = es ∙ ap (λ b. headerBits (layout b)) f
+
+      layout-is : isOver (cardPrime ys) ≡ isWide ys
+      layout-is = layout-right ys header-there (good .layout-good)
+
+      pub words-there : start + count * w ≤ 8 * length ys
       unfolding cardLength
-      words-there = rw (width-is, count-is) (omega (arith, good .size))
+      words-there = rw (width-is, count-is, start-is, ← layout-is) (omega (arith, good .size))
 
-      pub accepted-output : (new : List ℕ) → new ≡ entries ys w count → new ≡ readOutput ys out
+      pub accepted-output : (new : List ℕ) → new ≡ entries ys start w count → new ≡ readOutput ys out
       unfolding readOutput cardWords
-      accepted-output new en =
-          en
-          ∙ rw (accepted, fields-length (unpacked ys) 24 (width (cardPrime ys)) (wordCount (cardDegree ys) (cardKind ys)))
-          (ap₂ (λ a b. entries ys a b) width-is count-is)
+      accepted-output new enew =
+          enew
+          ∙ rw (accepted, fields-length (unpacked ys) (headerBits (layoutAt ys)) (width (cardPrime ys)) (wordCount (cardDegree ys) (cardKind ys)), width-is, count-is, start-is)
 
 module _ (p n kind : ℕ) (words out : List ℕ) (number : ℕ) (e : number ≡ writeNumber p n kind words out) where
   pub write-refused : (number ≡ 0 → ⊥) → out ≡ writeOutput p n kind words out
@@ -93,7 +106,7 @@ module _ (p n kind : ℕ) (words out : List ℕ) (number : ℕ) (e : number ≡ 
     fit : Writable p n kind words out
     fit = writable p n kind words out written-number
 
-    pub prime-fits : p ≤ 65535
+    pub prime-fits : p ≤ largestPrime
     prime-fits = fit .small
 
     pub degree-there : 1 ≤ n
@@ -105,7 +118,7 @@ module _ (p n kind : ℕ) (words out : List ℕ) (number : ℕ) (e : number ≡ 
     pub room-exact : length out ≡ length (card p n kind words)
     room-exact = fit .size ∙ sym (longest-card .0 p n kind words out written-number .0)
 
-    pub room-most : length out ≤ 131
+    pub room-most : length out ≤ 166
     room-most = rw (fit .size) (longest-card .0 p n kind words out written-number .1)
 
     pub write-accepted : (new : List ℕ) → new ≡ card p n kind words → new ≡ writeOutput p n kind words out

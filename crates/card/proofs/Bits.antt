@@ -43,7 +43,7 @@ pub number-bits : (w v : ℕ) → v < 2 ^ w → number (bits w v) ≡ v
 number-bits w v h = numberFrom-bits w 0 v ∙ omega (arith, mod-eq-of-lt h)
 
 -- the first number and every bit can be told from the last number: bit by bit from the end, the remainder by 2
-numberFrom-injective : {w : ℕ} {xs ys : List ℕ} (g h : ℕ) → Words 2 w xs → Words 2 w ys → numberFrom g xs ≡ numberFrom h ys → (g ≡ h) × (xs ≡ ys)
+pub numberFrom-injective : {w : ℕ} {xs ys : List ℕ} (g h : ℕ) → Words 2 w xs → Words 2 w ys → numberFrom g xs ≡ numberFrom h ys → (g ≡ h) × (xs ≡ ys)
 unfolding numberFrom
 numberFrom-injective g h none none e = (e, refl)
 numberFrom-injective g h (more {a = x} {u = xs} k v) (more {a = y} {u = ys} l w) e =

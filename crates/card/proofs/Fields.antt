@@ -5,13 +5,14 @@ use mathlib.Core.List.{List, [], _∷_, _++_, append-assoc}
 use Prim.Native.Nat.{ℕ, zero, suc, _+_, _*_, _^_, _≤_, _<_}
 use native.Mathlib.Nat.{le-of-suc-le-suc}
 use native.Mathlib.Omega.{arith}
-use lib.ListN.{length, getD, take, drop, List·getD-append}
+use lib.Dec.{lit<}
+use lib.ListN.{length, getD, take, drop, replicate, List·getD-append}
 use lib.Seq.{take-at, take-add, drop-drop, drop-append-add, getD-append-add}
 use Rattle.array.specs.Words.{Words, none, more}
-use Rattle.array.proofs.Words.{words-length, append-words, take-words, drop-words}
-use Rattle.card.specs.Bits.{bits, number}
+use Rattle.array.proofs.Words.{words-length, append-words, take-words, drop-words, zeros-words}
+use Rattle.card.specs.Bits.{bits, number, numberFrom}
 use Rattle.card.specs.Card.{allBits, fieldAt, fieldsAt}
-use Rattle.card.proofs.Bits.{bits-words, bits-length, bits-number, number-bits, number-below}
+use Rattle.card.proofs.Bits.{bits-words, bits-length, bits-number, number-bits, number-below, numberFrom-injective}
 
 pub all-bits-words : (w : ℕ) (words : List ℕ) → Words 2 (length words * w) (allBits w words)
 unfolding allBits
@@ -62,6 +63,11 @@ unfolding fieldsAt
 fields-length bs i w zero = refl
 fields-length bs i w (suc k) = ap suc (fields-length bs (i + w) w k)
 
+number-zeros : (w : ℕ) → number (replicate w 0) ≡ 0
+unfolding numberFrom
+number-zeros zero = refl
+number-zeros (suc w) = number-zeros w
+
 module _ {m : ℕ} {bs : List ℕ} (b : Words 2 m bs) (i w : ℕ) (h : i + w ≤ m) where
   part-words : Words 2 w (take w (drop i bs))
   part-words = take-words (drop-words b i) w (omega arith)
@@ -73,6 +79,15 @@ module _ {m : ℕ} {bs : List ℕ} (b : Words 2 m bs) (i w : ℕ) (h : i + w ≤
   pub bits-of-field : bits w (fieldAt bs i w) ≡ take w (drop i bs)
   unfolding fieldAt
   bits-of-field = bits-number part-words
+
+  -- a field is 0 exactly where its bits are
+  pub zero-field : fieldAt bs i w ≡ 0 → take w (drop i bs) ≡ replicate w 0
+  unfolding fieldAt
+  zero-field e = numberFrom-injective 0 0 part-words (zeros-words w (lit< tt)) (e ∙ sym (number-zeros w)) .1
+
+  pub field-zero : take w (drop i bs) ≡ replicate w 0 → fieldAt bs i w ≡ 0
+  unfolding fieldAt
+  field-zero e = ap (λ l. number l) e ∙ number-zeros w
 
 pub bits-of-fields : {m : ℕ} {bs : List ℕ} → Words 2 m bs → (i w k : ℕ) → i + k * w ≤ m → allBits w (fieldsAt bs i w k) ≡ take (k * w) (drop i bs)
 unfolding allBits fieldsAt

@@ -39,13 +39,13 @@ module _ (ys : List ℕ) (i w : ℕ) (fits : i + w ≤ 8 * length ys) where
   pub field-turn : (j value b : ℕ) → value ≡ fieldAt (unpacked ys) i j → b ≡ getD (unpacked ys) (i + j) 0 → j < w → value * 2 + b ≡ fieldAt (unpacked ys) i (j + 1)
   field-turn j value b v e h = ap₂ (λ x y. x * 2 + y) v e ∙ sym (field-next (unpacked ys) i j (omega (arith, unpacked-length ys)))
 
-  field-small : (j value : ℕ) → value ≡ fieldAt (unpacked ys) i j → j ≤ w → w ≤ 16 → value < 65536
+  field-small : (j value : ℕ) → value ≡ fieldAt (unpacked ys) i j → j ≤ w → w ≤ 20 → value < 2 ^ 20
   field-small j value v h m =
-      let short : j ≤ 16 = omega arith in
+      let short : j ≤ 20 = omega arith in
       rw v (lt-of-lt-of-le (field-below (unpacked-words ys) i j (omega arith)) (pow-mono short))
 
   -- the number after one more bit is small too
-  pub field-turn-small : (j value b : ℕ) → value ≡ fieldAt (unpacked ys) i j → b ≡ getD (unpacked ys) (i + j) 0 → j < w → w ≤ 16 → value * 2 + b < 65536
+  pub field-turn-small : (j value b : ℕ) → value ≡ fieldAt (unpacked ys) i j → b ≡ getD (unpacked ys) (i + j) 0 → j < w → w ≤ 20 → value * 2 + b < 2 ^ 20
   field-turn-small j value b v e h m = field-small (j + 1) (value * 2 + b) (field-turn j value b v e h) (omega arith) m
 
   pub field-end : (j value : ℕ) → value ≡ fieldAt (unpacked ys) i j → j ≤ w → w ≤ j → value ≡ fieldAt (unpacked ys) i w

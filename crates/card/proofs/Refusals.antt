@@ -1,31 +1,28 @@
 -- A call succeeds exactly where none of its conditions applies.
 --   Writable   none of the writer's conditions applies
 --   Readable   none of the reader's conditions applies
-use mathlib.Core.Path.{_≡_, refl, sym}
-use mathlib.Core.Bool.{Bool, true, false, _||_, not, false≢true}
+use mathlib.Core.Path.{_≡_}
+use mathlib.Core.Bool.{true, false, not}
 use mathlib.Core.List.{List, [], _∷_}
 use Prim.Native.Nat.{ℕ, _≤_}
-use lib.Dec.{ltb, eqb}
+use lib.Dec.{eqb}
 use lib.ListN.{length}
-use borrow.Author.Tests.{eqb-true, eq-eqb, ltb-false, le-ltb, not-false}
+use borrow.Author.Tests.{eqb-true, eq-eqb, not-false}
 use Rattle.algebra.specs.Lists.{all}
 use Rattle.algebra.specs.Prime.{Prime}
 use Rattle.array.specs.Words.{Words}
 use Rattle.array.proofs.Words.{words-length}
+use Rattle.modular.specs.Prime.{largestPrime}
 use Rattle.refusal.specs.Refusal.{badPrime, badDegree, badLength, badWord}
 use Rattle.refusal.proofs.Lists.{words-of, lengths-given, given-lengths, below-given, words-given, given-words}
 use Rattle.refusal.proofs.Refusal.{refuse-none, prime-given, given-prime, degree-given, given-degree}
-use Rattle.card.specs.Card.{badKind, wordCount, cardLength, cardPrime, cardDegree, cardKind, cardWords, fillBits, readNumber, writeNumber}
-use Rattle.card.proofs.Header.{word-count}
+use Rattle.card.specs.Card.{badKind, wordCount, cardLength, cardPrime, cardDegree, cardKind, cardWords, badHeader, badLayout, fillBits, readNumber, writeNumber}
+use Rattle.card.proofs.Header.{or-false-both, word-count}
 use Rattle.card.proofs.Zeros.{isZero}
-
-or-false-both : (a b : Bool) → (a || b) ≡ false → (a ≡ false) × (b ≡ false)
-or-false-both true b h = absurd (false≢true (sym h))
-or-false-both false b h = (refl, h)
 
 pub record Writable (p n kind : ℕ) (words out : List ℕ) : Type 0 where
   pub prime : Prime p
-  pub small : p ≤ 65535
+  pub small : p ≤ largestPrime
   pub low : 1 ≤ n
   pub high : n ≤ 16
   pub kind-good : badKind kind ≡ false
@@ -66,9 +63,10 @@ module _ (p n kind : ℕ) (words out : List ℕ) where
 
 pub record Readable (ys out : List ℕ) : Type 0 where
   pub lent : length out ≡ 64
-  pub header : 3 ≤ length ys
+  pub header : badHeader ys ≡ false
   pub prime : Prime (cardPrime ys)
-  pub small : cardPrime ys ≤ 65535
+  pub small : cardPrime ys ≤ largestPrime
+  pub layout-good : badLayout ys ≡ false
   pub kind-good : badKind (cardKind ys) ≡ false
   pub size : length ys ≡ cardLength (cardPrime ys) (cardDegree ys) (cardKind ys)
   pub fill : all isZero (fillBits ys) ≡ true
@@ -79,17 +77,19 @@ module _ (ys out : List ℕ) where
   unfolding readNumber
   readable h =
       let (lent, h11) = refuse-none 2 (badLength 64 (out ∷ [])) _ h in
-      let (header, h1) = refuse-none 10 (ltb (length ys) 3) _ h11 in
-      let (prime, h12) = refuse-none 0 (badPrime (cardPrime ys)) _ h1 in
+      let (header, h1) = refuse-none 10 (badHeader ys) _ h11 in
+      let (prime, h28) = refuse-none 0 (badPrime (cardPrime ys)) _ h1 in
+      let (layout-good, h12) = refuse-none 27 (badLayout ys) _ h28 in
       let (kind-good, h11-again) = refuse-none 11 (badKind (cardKind ys)) _ h12 in
       let (size, h13) = refuse-none 10 (not (eqb (length ys) (cardLength (cardPrime ys) (cardDegree ys) (cardKind ys)))) _ h11-again in
       let (fill, h4) = refuse-none 12 (not (all isZero (fillBits ys))) _ h13 in
       let (below, end) = refuse-none 3 (badWord (cardPrime ys) (cardWords ys ∷ [])) 0 h4 in
       record {
         lent = lengths-given 64 (out ∷ []) lent .0;
-        header = ltb-false (length ys) 3 header;
+        header = header;
         prime = prime-given (cardPrime ys) prime .0;
         small = prime-given (cardPrime ys) prime .1;
+        layout-good = layout-good;
         kind-good = kind-good;
         size = eqb-true (length ys) (cardLength (cardPrime ys) (cardDegree ys) (cardKind ys)) (not-false _ size);
         fill = not-false (all isZero (fillBits ys)) fill;
@@ -101,8 +101,9 @@ module _ (ys out : List ℕ) where
   read-accepts h =
       rw (
         given-lengths 64 (out ∷ []) (h .lent, tt),
-        le-ltb (length ys) 3 (h .header),
+        h .header,
         given-prime (cardPrime ys) (h .prime) (h .small),
+        h .layout-good,
         h .kind-good,
         eq-eqb (length ys) (cardLength (cardPrime ys) (cardDegree ys) (cardKind ys)) (h .size),
         h .fill,

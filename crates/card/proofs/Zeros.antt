@@ -33,6 +33,15 @@ all-zeros (x ∷ xs) h = by-head (isZero x) refl (all-zeros xs) h
     by-head true e rest h = ap₂ (λ (a : ℕ) (r : List ℕ). a ∷ r) (eqb-true x 0 e) (rest h)
     by-head false e rest h = absurd (false≢true h)
 
+pub all-append : (test : ℕ → Bool) (xs ys : List ℕ) → all test (xs ++ ys) ≡ (all test xs && all test ys)
+unfolding all
+all-append test [] ys = refl
+all-append test (x ∷ xs) ys = by-head (test x) (all-append test xs ys)
+  where
+    by-head : (b : Bool) → all test (xs ++ ys) ≡ (all test xs && all test ys) → (b && all test (xs ++ ys)) ≡ ((b && all test xs) && all test ys)
+    by-head true rest = rest
+    by-head false rest = refl
+
 -- past the end a list reads as zeros
 pub getD-zeros : (xs : List ℕ) (m k : ℕ) → getD (xs ++ replicate m 0) k 0 ≡ getD xs k 0
 getD-zeros [] zero k = refl

@@ -1,17 +1,20 @@
 // The reader of cards. Nothing is written before the last refusal is decided.
 ghost use mathlib.Core.Path.{_≡_};
-ghost use mathlib.Core.Bool.{not};
+ghost use mathlib.Core.Bool.{false, _&&_, not};
 ghost use mathlib.Core.List.{_++_, _∷_, []};
 ghost use Prim.Native.Nat.{_+_, _-_, _*_, _/_, _^_, _≤_, _<_};
-ghost use lib.Dec.{eqb};
+ghost use lib.Dec.{ltb, eqb};
 ghost use lib.ListN.{length, getD, drop, replicate};
 ghost use Rattle.algebra.specs.Lists.{all};
 ghost use Rattle.array.specs.Words.{allBelow};
+ghost use Rattle.modular.specs.Prime.{largestPrime};
 ghost use Rattle.refusal.specs.Refusal.{refuse, badWord};
 ghost use Rattle.card.specs.Bits.{unpacked};
-ghost use Rattle.card.specs.Card.{width as widthOf, fieldAt, fieldsAt, readNumber, readPrime, readDegree, readKind, readOutput};
+ghost use Rattle.card.specs.Card.{layout, headerBits, width as widthOf, fieldAt, fieldsAt, isWide, cardPrime, cardDegree, cardKind, badHeader, fillOf, readNumber, readPrime, readDegree, readKind, readOutput};
 use crate::layout::bit_count;
 use crate::layout::digit;
+use crate::layout::header_bits;
+use crate::layout::layout_of;
 use crate::layout::width;
 use crate::layout::word_count;
 use array::Word;
@@ -35,8 +38,8 @@ fn bit(card: &[u8], i: usize) -> u32
 
 // The number in the w bits from place i on.
 fn field(card: &[u8], i: usize, w: usize) -> u32
-    requires { ⌜ (w ≤ 16) × (i + w ≤ 8 * length (now card)) × (i ≤ 1048) ⌝ }
-    ensures { λ r. ⌜ (r ≡ fieldAt (unpacked (now (card .entry))) i w) × (r < 2 ^ w) × (r < 65536) ⌝ }
+    requires { ⌜ (w ≤ 20) × (i + w ≤ 8 * length (now card)) × (i ≤ 1328) ⌝ }
+    ensures { λ r. ⌜ (r ≡ fieldAt (unpacked (now (card .entry))) i w) × (r < 2 ^ w) × (r < 2 ^ 20) ⌝ }
 {
     let mut value = 0;
     let mut j = 0;
@@ -47,9 +50,61 @@ fn field(card: &[u8], i: usize, w: usize) -> u32
     value
 }
 
+// Whether the card starts with 16 zero bits, as wide cards do.
+fn is_wide(card: &[u8]) -> bool
+    requires { ⌜ 2 ≤ length (now card) ⌝ }
+    ensures { λ r. ⌜ r ≡ isWide (now (card .entry)) ⌝ }
+{
+    field(card, 0, 16) == 0
+}
+
+// Whether the card has fewer bytes than a header.
+fn is_short(card: &[u8]) -> bool
+    ensures { λ r. ⌜ r ≡ badHeader (now (card .entry)) ⌝ }
+{
+    if card.len() < 3 {
+        return true;
+    }
+    if !is_wide(card) {
+        return false;
+    }
+    card.len() < 6
+}
+
+// Whether a p that has room in a narrow card stands in a wide one.
+fn is_misplaced(wide: bool, p: u32) -> bool
+    ensures { λ r. ⌜ r ≡ (wide && ltb p 65536) ⌝ }
+{
+    if !wide {
+        return false;
+    }
+    p < 65536
+}
+
+// What the header says: p, n and kind.
+fn header(card: &[u8], wide: bool) -> ReadCard
+    requires { ⌜ (wide ≡ isWide (now card)) × (badHeader (now card) ≡ false) ⌝ }
+    ensures number { λ r. ⌜ r .number ≡ 0 ⌝ }
+    ensures prime { λ r. ⌜ (r .p ≡ cardPrime (now (card .entry))) × (r .p ≤ largestPrime) ⌝ }
+    ensures degree { λ r. ⌜ (r .n ≡ cardDegree (now (card .entry))) × (1 ≤ r .n) × (r .n ≤ 16) ⌝ }
+    ensures kind { λ r. ⌜ r .kind ≡ cardKind (now (card .entry)) ⌝ }
+{
+    let l = layout_of(wide);
+    let place = l.before + l.digits;
+    let p = field(card, l.before, l.digits);
+    let n = field(card, place, 4) + 1;
+    let kind = field(card, place + 4, 4);
+    ReadCard {
+        number: 0,
+        p,
+        n,
+        kind,
+    }
+}
+
 // Whether every bit from place i on is 0.
 fn zero_from(card: &[u8], i: usize) -> bool
-    requires { ⌜ (length (now card) ≤ 131) × (i ≤ 8 * length (now card)) ⌝ }
+    requires { ⌜ (length (now card) ≤ 166) × (i ≤ 8 * length (now card)) ⌝ }
     ensures { λ r. ⌜ r ≡ all (λ b. eqb b 0) (drop i (unpacked (now (card .entry)))) ⌝ }
 {
     let mut j = 0;
@@ -62,22 +117,34 @@ fn zero_from(card: &[u8], i: usize) -> bool
     true
 }
 
-// Word k, which follows the header and k words of w bits.
-fn word(card: &[u8], w: usize, k: usize) -> u32
-    requires { ⌜ (w ≤ 16) × (k < 64) × (24 + k * w + w ≤ 8 * length (now card)) ⌝ }
-    ensures { λ r. ⌜ (r ≡ fieldAt (unpacked (now (card .entry))) (24 + k * w) w) × (r < 65536) ⌝ }
+// Whether the bits that count as fill are 0: those of the header after kind, and those from place `end` on.
+fn is_filled(card: &[u8], wide: bool, end: usize) -> bool
+    requires { ⌜ (length (now card) ≤ 166) × (headerBits (layout wide) ≤ end) × (end ≤ 8 * length (now card)) ⌝ }
+    ensures { λ r. ⌜ r ≡ all (λ b. eqb b 0) (fillOf (layout wide) end (unpacked (now (card .entry)))) ⌝ }
 {
-    field(card, bit_count(w, k), w)
+    let l = layout_of(wide);
+    if field(card, l.before + l.digits + 8, l.after) != 0 {
+        return false;
+    }
+    zero_from(card, end)
+}
+
+// Word k, which follows the `start` bits of the header and k words of w bits.
+fn word(card: &[u8], start: usize, w: usize, k: usize) -> u32
+    requires { ⌜ (start ≤ 48) × (w ≤ 20) × (k < 64) × (start + k * w + w ≤ 8 * length (now card)) ⌝ }
+    ensures { λ r. ⌜ (r ≡ fieldAt (unpacked (now (card .entry))) (start + k * w) w) × (r < 2 ^ 20) ⌝ }
+{
+    field(card, bit_count(start, w, k), w)
 }
 
 // Whether each of the first `count` words is below p.
-fn words_below(card: &[u8], p: u32, w: usize, count: usize) -> bool
-    requires { ⌜ (w ≤ 16) × (count ≤ 64) × (24 + count * w ≤ 8 * length (now card)) ⌝ }
-    ensures { λ r. ⌜ r ≡ allBelow p (fieldsAt (unpacked (now (card .entry))) 24 w count) ⌝ }
+fn words_below(card: &[u8], p: u32, start: usize, w: usize, count: usize) -> bool
+    requires { ⌜ (start ≤ 48) × (w ≤ 20) × (count ≤ 64) × (start + count * w ≤ 8 * length (now card)) ⌝ }
+    ensures { λ r. ⌜ r ≡ allBelow p (fieldsAt (unpacked (now (card .entry))) start w count) ⌝ }
 {
     let mut k = 0;
     while k < count {
-        if word(card, w, k) >= p {
+        if word(card, start, w, k) >= p {
             return false;
         }
         k += 1;
@@ -86,44 +153,45 @@ fn words_below(card: &[u8], p: u32, w: usize, count: usize) -> bool
 }
 
 // What stands at place k of the lent words: word k, and 0 after the last.
-fn entry(card: &[u8], w: usize, count: usize, k: usize) -> Word
-    requires { ⌜ (w ≤ 16) × (count ≤ 64) × (24 + count * w ≤ 8 * length (now card)) × (k < 64) ⌝ }
-    ensures { λ r. ⌜ r ≡ getD (fieldsAt (unpacked (now (card .entry))) 24 w count ++ replicate (64 - count) 0) k 0 ⌝ }
+fn entry(card: &[u8], start: usize, w: usize, count: usize, k: usize) -> Word
+    requires { ⌜ (start ≤ 48) × (w ≤ 20) × (count ≤ 64) × (start + count * w ≤ 8 * length (now card)) × (k < 64) ⌝ }
+    ensures { λ r. ⌜ r ≡ getD (fieldsAt (unpacked (now (card .entry))) start w count ++ replicate (64 - count) 0) k 0 ⌝ }
 {
     if k < count {
-        word(card, w, k) as Word
+        word(card, start, w, k)
     } else {
         0
     }
 }
 
 // Writes the words of the card into the 64 lent words, the rest 0.
-fn copy_words(card: &[u8], w: usize, count: usize, words: &mut [Word])
-    requires { ⌜ (w ≤ 16) × (count ≤ 64) × (24 + count * w ≤ 8 * length (now card)) × (length (now words) ≡ 64) ⌝ }
-    ensures { λ r. ⌜ now (words .exit) ≡ fieldsAt (unpacked (now (card .entry))) 24 w count ++ replicate (64 - count) 0 ⌝ }
+fn copy_words(card: &[u8], start: usize, w: usize, count: usize, words: &mut [Word])
+    requires { ⌜ (start ≤ 48) × (w ≤ 20) × (count ≤ 64) × (start + count * w ≤ 8 * length (now card)) × (length (now words) ≡ 64) ⌝ }
+    ensures { λ r. ⌜ now (words .exit) ≡ fieldsAt (unpacked (now (card .entry))) start w count ++ replicate (64 - count) 0 ⌝ }
 {
     let mut k = 0;
     while k < words.len() {
-        words[k] = entry(card, w, count, k);
+        words[k] = entry(card, start, w, count, k);
         k += 1;
     }
 }
 
 // The refusals of what follows the header: 11 (length), 13, 4.
-fn body_fault(card: &[u8], p: u32, count: usize) -> u32
-    requires { ⌜ (p ≤ 65535) × (count ≤ 64) ⌝ }
+fn body_fault(card: &[u8], wide: bool, p: u32, count: usize) -> u32
+    requires { ⌜ (p ≤ largestPrime) × (count ≤ 64) ⌝ }
     ensures { λ r. ⌜ r ≡
-        refuse 11 (not (eqb (length (now (card .entry))) ((24 + count * widthOf p + 7) / 8)))
-        (refuse 13 (not (all (λ b. eqb b 0) (drop (24 + count * widthOf p) (unpacked (now (card .entry))))))
-        (refuse 4 (badWord p (fieldsAt (unpacked (now (card .entry))) 24 (widthOf p) count ∷ [])) 0)) ⌝ }
+        refuse 11 (not (eqb (length (now (card .entry))) ((headerBits (layout wide) + count * widthOf p + 7) / 8)))
+        (refuse 13 (not (all (λ b. eqb b 0) (fillOf (layout wide) (headerBits (layout wide) + count * widthOf p) (unpacked (now (card .entry))))))
+        (refuse 4 (badWord p (fieldsAt (unpacked (now (card .entry))) (headerBits (layout wide)) (widthOf p) count ∷ [])) 0)) ⌝ }
 {
     let w = width(p);
-    let end = bit_count(w, count);
+    let start = header_bits(wide);
+    let end = bit_count(start, w, count);
     if card.len() != (end + 7) / 8 {
         return 11;
     }
-    let zeros = zero_from(card, end);
-    let small = words_below(card, p, w, count);
+    let zeros = is_filled(card, wide, end);
+    let small = words_below(card, p, start, w, count);
     if !zeros {
         return 13;
     }
@@ -140,18 +208,22 @@ fn fault(card: &[u8], words: &[Word]) -> u32
     if words.len() != 64 {
         return 3;
     }
-    if card.len() < 3 {
+    if is_short(card) {
         return 11;
     }
-    let p = field(card, 0, 16);
-    if !is_prime(p) {
+    let wide = is_wide(card);
+    let said = header(card, wide);
+    if !is_prime(said.p) {
         return 1;
     }
-    let count = word_count(field(card, 16, 4) + 1, field(card, 20, 4));
+    if is_misplaced(wide, said.p) {
+        return 28;
+    }
+    let count = word_count(said.n, said.kind);
     if count == 0 {
         return 12;
     }
-    body_fault(card, p, count)
+    body_fault(card, wide, said.p, count)
 }
 
 // Reads a card: p, n and kind, and its words in card order into 64 lent words, the rest 0.
@@ -171,9 +243,14 @@ pub fn read(card: &[u8], words: &mut [Word]) -> ReadCard
             kind: 0,
         };
     }
-    let p = field(card, 0, 16);
-    let n = field(card, 16, 4) + 1;
-    let kind = field(card, 20, 4);
-    copy_words(card, width(p), word_count(n, kind), words);
-    ReadCard { number, p, n, kind }
+    let wide = is_wide(card);
+    let said = header(card, wide);
+    copy_words(
+        card,
+        header_bits(wide),
+        width(said.p),
+        word_count(said.n, said.kind),
+        words,
+    );
+    said
 }

@@ -20,17 +20,17 @@ use pair::checker::congruences_hold;
 
 // The line of the pair card of the words, to which no refusal of the writer applies.
 fn print_card(p: u32, n: u32, words: &[Word], text: &mut [u8]) -> usize
-    requires { ⌜ (writeNumber p n 2 (now words) (replicate (cardLength p n 2) 0) ≡ 0) × (268 ≤ length (now text)) ⌝ }
+    requires { ⌜ (writeNumber p n 2 (now words) (replicate (cardLength p n 2) 0) ≡ 0) × (338 ≤ length (now text)) ⌝ }
     ensures { λ r. ⌜ Begins (pairText (card p n 2 (now (words .entry)))) (now (text .exit)) r ⌝ }
 {
-    let mut bytes = [0u8; 131];
+    let mut bytes = [0u8; 166];
     let size = write_card(p, n, words, &mut bytes);
     put_pair(text, &bytes[..size])
 }
 
 // A job: the words begin with T1 and T2.
 fn answer_job(p: u32, n: u32, words: &mut [Word], text: &mut [u8]) -> usize
-    requires { ⌜ (n ≤ 16) × (length (now words) ≡ 64) × (268 ≤ length (now text)) × Models p n (part n (now words) 0) (part n (now words) 1) ⌝ }
+    requires { ⌜ (n ≤ 16) × (length (now words) ≡ 64) × (338 ≤ length (now text)) × Models p n (part n (now words) 0) (part n (now words) 1) ⌝ }
     ensures { λ r. ⌜ Begins (jobText p n (part n (now (words .entry)) 0) (part n (now (words .entry)) 1)) (now (text .exit)) r ⌝ }
 {
     let number = find_pair(p, n, words);
@@ -50,7 +50,7 @@ fn print_pair(
     r: &[Word],
     text: &mut [u8],
 ) -> usize
-    requires { ⌜ (268 ≤ length (now text)) × Given p n (now t1) (now t2) (now s) (now r) ⌝ }
+    requires { ⌜ (338 ≤ length (now text)) × Given p n (now t1) (now t2) (now s) (now r) ⌝ }
     ensures { λ end. ⌜ Begins (pairCardText p (now (t1 .entry)) (now (t2 .entry)) (now (s .entry)) (now (r .entry))) (now (text .exit)) end ⌝ }
 {
     let number = check(p, n, t1, t2, s, r);
@@ -65,7 +65,7 @@ fn print_pair(
 
 // A pair card: the words begin with T1, T2, S and R.
 fn answer_pair(p: u32, n: u32, words: &[Word], text: &mut [u8]) -> usize
-    requires { ⌜ (n ≤ 16) × (length (now words) ≡ 64) × (268 ≤ length (now text))
+    requires { ⌜ (n ≤ 16) × (length (now words) ≡ 64) × (338 ≤ length (now text))
         × Given p n (part n (now words) 0) (part n (now words) 1) (part n (now words) 2) (part n (now words) 3) ⌝ }
     ensures { λ r. ⌜ Begins
         (pairCardText p (part n (now (words .entry)) 0) (part n (now (words .entry)) 1) (part n (now (words .entry)) 2) (part n (now (words .entry)) 3))
@@ -84,7 +84,7 @@ fn answer_pair(p: u32, n: u32, words: &[Word], text: &mut [u8]) -> usize
 }
 
 // What is printed for the card: the first r bytes of the text.
-pub fn answer(card: &[u8], text: &mut [u8; 268]) -> usize
+pub fn answer(card: &[u8], text: &mut [u8; 338]) -> usize
     ensures text { λ r. ⌜ take r (now (text .exit)) ≡ answerText (now (card .entry)) ⌝ }
     ensures count { λ r. ⌜ Counts r (now (text .exit)) ⌝ }
 {

@@ -6,8 +6,9 @@ ghost use Rattle.card.specs.Bits.{unpacked};
 ghost use Rattle.card.specs.Card.{width as widthOf, allBits, card, writeNumber, writeOutput};
 use array::Word;
 use array::list::below;
-use card::layout::bit_count;
+use card::layout::byte_count;
 use card::layout::digit;
+use card::layout::layout_of;
 use card::layout::width;
 use card::layout::word_count;
 use modular::prime::is_prime;
@@ -15,12 +16,12 @@ use refusal::sent::is_degree;
 
 // Bit i of the words, of w bits each, and 0 after the last.
 fn word_bit(w: usize, words: &[Word], i: usize) -> u32
-    requires { ⌜ (1 ≤ w) × (w ≤ 16) ⌝ }
+    requires { ⌜ (1 ≤ w) × (w ≤ 20) ⌝ }
     ensures { λ r. ⌜ (r ≡ getD (allBits w (now (words .entry))) i 0) × (r < 2) ⌝ }
 {
     let k = i / w;
     if k < words.len() {
-        digit(words[k] as u32, (w - 1 - i % w) as u32)
+        digit(words[k], (w - 1 - i % w) as u32)
     } else {
         0
     }
@@ -28,24 +29,32 @@ fn word_bit(w: usize, words: &[Word], i: usize) -> u32
 
 // Bit i of the card, where w is the width of p.
 fn bit(p: u32, n: u32, kind: u32, w: usize, words: &[Word], i: usize) -> u32
-    requires { ⌜ (1 ≤ n) × (1 ≤ w) × (w ≤ 16) × (w ≡ widthOf p) ⌝ }
+    requires { ⌜ (1 ≤ n) × (1 ≤ w) × (w ≤ 20) × (w ≡ widthOf p) ⌝ }
     ensures { λ r. ⌜ (r ≡ getD (unpacked (card p n kind (now (words .entry)))) i 0) × (r < 2) ⌝ }
 {
-    if i < 16 {
-        return digit(p, 15 - i as u32);
+    let l = layout_of(p > 65535);
+    let place = l.before + l.digits;
+    if i < l.before {
+        return 0;
     }
-    if i < 20 {
-        return digit(n - 1, 19 - i as u32);
+    if i < place {
+        return digit(p, (place - 1 - i) as u32);
     }
-    if i < 24 {
-        return digit(kind, 23 - i as u32);
+    if i < place + 4 {
+        return digit(n - 1, (place + 3 - i) as u32);
     }
-    word_bit(w, words, i - 24)
+    if i < place + 8 {
+        return digit(kind, (place + 7 - i) as u32);
+    }
+    if i < place + 8 + l.after {
+        return 0;
+    }
+    word_bit(w, words, i - (place + 8 + l.after))
 }
 
 // Byte k of the card.
 fn byte(p: u32, n: u32, kind: u32, w: usize, words: &[Word], k: usize) -> u8
-    requires { ⌜ (1 ≤ n) × (1 ≤ w) × (w ≤ 16) × (w ≡ widthOf p) × (k < length (card p n kind (now words))) × (k ≤ 131) ⌝ }
+    requires { ⌜ (1 ≤ n) × (1 ≤ w) × (w ≤ 20) × (w ≡ widthOf p) × (k < length (card p n kind (now words))) × (k ≤ 166) ⌝ }
     ensures { λ r. ⌜ r ≡ getD (card p n kind (now (words .entry))) k 0 ⌝ }
 {
     let mut value = 0;
@@ -59,7 +68,7 @@ fn byte(p: u32, n: u32, kind: u32, w: usize, words: &[Word], k: usize) -> u8
 
 // Writes the card into the lent bytes, which are as many as it has.
 fn write_bytes(p: u32, n: u32, kind: u32, w: usize, words: &[Word], out: &mut [u8])
-    requires { ⌜ (1 ≤ n) × (1 ≤ w) × (w ≤ 16) × (w ≡ widthOf p) × (length (now out) ≡ length (card p n kind (now words))) × (length (now out) ≤ 131) ⌝ }
+    requires { ⌜ (1 ≤ n) × (1 ≤ w) × (w ≤ 20) × (w ≡ widthOf p) × (length (now out) ≡ length (card p n kind (now words))) × (length (now out) ≤ 166) ⌝ }
     ensures { λ r. ⌜ now (out .exit) ≡ card p n kind (now (words .entry)) ⌝ }
 {
     let mut k = 0;
@@ -86,7 +95,7 @@ fn fault(p: u32, n: u32, kind: u32, words: &[Word], out: &[u8]) -> u32
     if words.len() != count {
         return 3;
     }
-    if out.len() != (bit_count(width(p), count) + 7) / 8 {
+    if out.len() != byte_count(p, count) {
         return 3;
     }
     if !below(p, words) {

@@ -5,8 +5,9 @@ use Prim.Native.Nat.{ℕ, _+_, _*_, _/_, _≤_}
 use native.Mathlib.Omega.{arith}
 use lib.ListN.{length, take, drop, replicate, length-append}
 use lib.Seq.{take-at, length-take-le}
+use Rattle.modular.specs.Prime.{largestPrime}
 use Rattle.refusal.specs.Refusal.{written}
-use Rattle.card.specs.Card.{width, card, cardLength, writeNumber, writeOutput}
+use Rattle.card.specs.Card.{layout, headerBits, isOver, width, card, cardLength, writeNumber, writeOutput}
 use Rattle.array.proofs.Words.{words-length}
 use Rattle.card.proofs.Refusals.{Writable, writable, write-accepts}
 use Rattle.card.proofs.Theorem.{longest-card}
@@ -16,7 +17,7 @@ module _ (p n : ℕ) (words : List ℕ) (h : writeNumber p n 2 words (replicate 
   fit : Writable p n 2 words (replicate (cardLength p n 2) 0)
   fit = writable p n 2 words (replicate (cardLength p n 2) 0) h
 
-  pub prime-fits : p ≤ 65535
+  pub prime-fits : p ≤ largestPrime
   prime-fits = fit .small
 
   word-count : length words ≡ 4 * n
@@ -39,15 +40,12 @@ module _ (p n : ℕ) (words : List ℕ) (h : writeNumber p n 2 words (replicate 
         size = e;
       })
 
-  module _ (w bits : ℕ) (out : List ℕ) (ew : w ≡ width p) (eb : bits ≡ 24 + length words * w) (room : length out ≡ 131) where
-    size : ℕ
-    size = (bits + 7) / 8
-
+  module _ (size : ℕ) (out : List ℕ) (es : size ≡ (headerBits (layout (isOver p)) + length words * width p + 7) / 8) (room : length out ≡ 166) where
     size-is : size ≡ cardLength p n 2
-    unfolding size cardLength
-    size-is = ap (λ k. (k + 7) / 8) (eb ∙ rw (word-count, ew))
+    unfolding cardLength
+    size-is = es ∙ rw word-count
 
-    size-most : size ≤ 131
+    size-most : size ≤ 166
     size-most = rw size-is (longest-card .0 p n 2 words (replicate (cardLength p n 2) 0) h .1)
 
     front : length (take size out) ≡ size
@@ -56,8 +54,8 @@ module _ (p n : ℕ) (words : List ℕ) (h : writeNumber p n 2 words (replicate 
     card-size : length (card p n 2 words) ≡ size
     card-size = longest-card .0 p n 2 words (replicate (cardLength p n 2) 0) h .0 ∙ sym size-is
 
-    pub card-written : (new : List ℕ) → new ≡ writeOutput p n 2 words (take ((bits + 7) / 8) out) → Begins (card p n 2 words) (new ++ drop ((bits + 7) / 8) out) ((bits + 7) / 8)
-    unfolding size writeOutput
+    pub card-written : (new : List ℕ) → new ≡ writeOutput p n 2 words (take size out) → Begins (card p n 2 words) (new ++ drop size out) size
+    unfolding writeOutput
     card-written new e =
         let new-is : new ≡ card p n 2 words = e ∙ ap (λ k. written k (card p n 2 words) (take size out)) (accepted (take size out) (front ∙ size-is)) in
         let new-size : length new ≡ size = ap length new-is ∙ card-size in

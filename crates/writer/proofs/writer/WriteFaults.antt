@@ -5,16 +5,16 @@ use mathlib.Core.List.{List, [], _∷_}
 use Prim.Native.Nat.{ℕ, _+_, _*_, _/_, _≤_}
 use lib.ListN.{length}
 use borrow.Author.Tests.{ne-eqb}
-use Rattle.modular.specs.Prime.{isPrime}
+use Rattle.modular.specs.Prime.{largestPrime, isPrime}
 use Rattle.array.specs.Words.{allBelow}
 use Rattle.refusal.specs.Refusal.{refuse, badPrime, isDegree, badDegree, badLength, badWord}
-use Rattle.card.specs.Card.{width, badKind, wordCount, cardLength, writeNumber}
+use Rattle.card.specs.Card.{layout, headerBits, isOver, width, badKind, wordCount, cardLength, writeNumber}
 use Rattle.refusal.proofs.Refusal.{prime-bounds, degree-given}
 use Rattle.refusal.proofs.Lists.{given-lengths}
 use Rattle.card.proofs.OneList.{bad-length-one, bad-word-one}
 use Rattle.card.proofs.CardKinds.{none-refused, some-good}
 
-pub prime-most : (p : ℕ) (b : Bool) → b ≡ isPrime p → not b ≡ false → p ≤ 65535
+pub prime-most : (p : ℕ) (b : Bool) → b ≡ isPrime p → not b ≡ false → p ≤ largestPrime
 unfolding badPrime
 prime-most p b e h = prime-bounds p (ap not (sym e) ∙ h) .1
 
@@ -45,22 +45,22 @@ module _ (p n kind : ℕ) (words out : List ℕ) (b : Bool) (eb : b ≡ isPrime 
 
       module _ (some : count ≡ 0 → ⊥) where
         after-kind : writeNumber p n kind words out
-            ≡ refuse 3 (badLength count (words ∷ []) || badLength ((24 + count * width p + 7) / 8) (out ∷ [])) (refuse 4 (badWord p (words ∷ [])) 0)
+            ≡ refuse 3 (badLength count (words ∷ []) || badLength ((headerBits (layout (isOver p)) + count * width p + 7) / 8) (out ∷ [])) (refuse 4 (badWord p (words ∷ [])) 0)
         unfolding cardLength
         after-kind = after-degree ∙ rw (some-good n kind (λ z. some (counted ∙ z)), ← counted)
 
         pub write-count : (length words ≡ count → ⊥) → 3 ≡ writeNumber p n kind words out
         write-count h = rw (after-kind, bad-length-one count words, ne-eqb (length words) count h)
 
-        module _ (filled : length words ≡ count) (w end : ℕ) (ew : w ≡ width p) (ee : end ≡ 24 + count * w) where
-          pub write-size : (length out ≡ (end + 7) / 8 → ⊥) → 3 ≡ writeNumber p n kind words out
+        module _ (filled : length words ≡ count) (size : ℕ) (es : size ≡ (headerBits (layout (isOver p)) + count * width p + 7) / 8) where
+          pub write-size : (length out ≡ size → ⊥) → 3 ≡ writeNumber p n kind words out
           write-size h =
-              rw (after-kind, given-lengths count (words ∷ []) (filled, tt), ← ew, ← ee, bad-length-one ((end + 7) / 8) out, ne-eqb (length out) ((end + 7) / 8) h)
+              rw (after-kind, given-lengths count (words ∷ []) (filled, tt), ← es, bad-length-one size out, ne-eqb (length out) size h)
 
-          module _ (fits : length out ≡ (end + 7) / 8) (a : Bool) (ea : a ≡ allBelow p words) where
+          module _ (fits : length out ≡ size) (a : Bool) (ea : a ≡ allBelow p words) where
             -- with everything else in order, the words decide
             write-last : writeNumber p n kind words out ≡ refuse 4 (not a) 0
-            write-last = after-kind ∙ rw (given-lengths count (words ∷ []) (filled, tt), ← ew, ← ee, given-lengths ((end + 7) / 8) (out ∷ []) (fits, tt), bad-word-one, ← ea)
+            write-last = after-kind ∙ rw (given-lengths count (words ∷ []) (filled, tt), ← es, given-lengths size (out ∷ []) (fits, tt), bad-word-one, ← ea)
 
             pub write-word : not a ≡ true → 4 ≡ writeNumber p n kind words out
             write-word h = rw (write-last, h)

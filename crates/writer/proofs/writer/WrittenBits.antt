@@ -1,18 +1,19 @@
--- The bits of a card that is written, by their places: of p, of n − 1, of kind, of the words, and zeros.
+-- The bits of a card that is written, by their places: zeros, those of p, of n − 1 and of kind, zeros, those of the words, and zeros.
 use mathlib.Core.Path.{_≡_, sym, ap, _∙_}
 use mathlib.Core.List.{List, [], _++_}
 use Prim.Native.Nat.{ℕ, suc, _+_, _-_, _*_, _/_, _%_, _^_, _≤_, _<_}
 use native.Mathlib.Nat.{mod-lt, div-mul-le-self, mul-le-mul-right, le-trans}
 use native.Mathlib.Omega.{arith}
-use lib.ListN.{length, getD, replicate, List·getD-append, List·getD-eq-default}
+use lib.ListN.{length, getD, replicate, length-replicate, getD-replicate, List·getD-append, List·getD-eq-default}
 use lib.Seq.{getD-append-add}
 use Rattle.card.specs.Bits.{bits, unpacked}
-use Rattle.card.specs.Card.{width, allBits, card, fieldAt}
+use Rattle.card.specs.Card.{layout, headerBits, isOver, width, allBits, header, card, fieldAt}
+use Rattle.card.specs.declared.layout.Layout.{Layout}
 use Rattle.card.proofs.Bits.{bits-length, bit-of-bits}
 use Rattle.card.proofs.Zeros.{getD-zeros}
 use Rattle.card.proofs.Fields.{all-bits-length}
 use Rattle.card.proofs.Places.{words-bit, field-end, byte-is-field, byte-fits}
-use Rattle.card.proofs.Written.{header, header-split, header-place, fillCount, unpacked-card, card-bytes}
+use Rattle.card.proofs.Written.{header-split, header-place, fillCount, unpacked-card, card-bytes}
 
 pub behind-fits : (w i : ℕ) → 1 ≤ w → i % w ≤ w - 1
 behind-fits w i h = omega (arith, mod-lt i h)
@@ -32,41 +33,85 @@ getD-skip xs ys i j e = ap (λ k. getD (xs ++ ys) k 0) e ∙ getD-append-add xs 
 getD-here : (w v : ℕ) (rest : List ℕ) (j e : ℕ) → j + suc e ≡ w → getD (bits w v ++ rest) j 0 ≡ v / 2 ^ e % 2
 getD-here w v rest j e h = List·getD-append (bits w v) rest 0 j (omega (arith, bits-length w v)) ∙ bit-of-bits w v j e h
 
-module _ (p n kind : ℕ) (rest : List ℕ) (i : ℕ) where
-  header-bit-prime : i < 16 → getD (header p n kind rest) i 0 ≡ p / 2 ^ (15 - i) % 2
+-- bit j of zeros that stand first
+getD-zero : (m : ℕ) (rest : List ℕ) (j : ℕ) → j < m → getD (replicate m 0 ++ rest) j 0 ≡ 0
+getD-zero m rest j h = List·getD-append (replicate m 0) rest 0 j (omega (arith, length-replicate {A = ℕ} m 0)) ∙ getD-replicate m j 0 0 h
+
+module _ (l : Layout) (p n kind : ℕ) (rest : List ℕ) (i : ℕ) where
+  header-bit-before : i < l .before → getD (header l p n kind rest) i 0 ≡ 0
   unfolding header
-  header-bit-prime h = getD-here 16 p _ i (15 - i) (omega arith)
+  header-bit-before h = getD-zero (l .before) _ i h
 
-  header-bit-degree : 16 ≤ i → i < 20 → getD (header p n kind rest) i 0 ≡ (n - 1) / 2 ^ (19 - i) % 2
-  unfolding header
-  header-bit-degree l h = getD-skip (bits 16 p) _ (i - 16) i (omega (arith, bits-length 16 p)) ∙ getD-here 4 (n - 1) _ (i - 16) (19 - i) (omega arith)
+  module _ (h : l .before ≤ i) where
+    -- behind the zeros
+    behind-zeros : getD (header l p n kind rest) i 0
+        ≡ getD (bits (l .digits) p ++ (bits 4 (n - 1) ++ (bits 4 kind ++ (replicate (l .after) 0 ++ rest)))) (i - l .before) 0
+    unfolding header
+    behind-zeros = getD-skip (replicate (l .before) 0) _ (i - l .before) i (omega (arith, length-replicate {A = ℕ} (l .before) 0))
 
-  header-bit-kind : 20 ≤ i → i < 24 → getD (header p n kind rest) i 0 ≡ kind / 2 ^ (23 - i) % 2
-  unfolding header
-  header-bit-kind l h =
-      getD-skip (bits 16 p) _ (i - 16) i (omega (arith, bits-length 16 p))
-      ∙ getD-skip (bits 4 (n - 1)) _ (i - 20) (i - 16) (omega (arith, bits-length 4 (n - 1)))
-      ∙ getD-here 4 kind rest (i - 20) (23 - i) (omega arith)
+    header-bit-prime : i < l .before + l .digits → getD (header l p n kind rest) i 0 ≡ p / 2 ^ (l .before + l .digits - 1 - i) % 2
+    header-bit-prime k = behind-zeros ∙ getD-here (l .digits) p _ (i - l .before) (l .before + l .digits - 1 - i) (omega arith)
 
-  header-bit-rest : 24 ≤ i → getD (header p n kind rest) i 0 ≡ getD rest (i - 24) 0
-  header-bit-rest l = rw header-split (getD-skip (header p n kind []) rest (i - 24) i (omega (arith, header-place p n kind (i - 24))))
+  module _ (h : l .before + l .digits ≤ i) where
+    behind-prime : getD (header l p n kind rest) i 0 ≡ getD (bits 4 (n - 1) ++ (bits 4 kind ++ (replicate (l .after) 0 ++ rest))) (i - (l .before + l .digits)) 0
+    behind-prime =
+        behind-zeros (omega arith) ∙ getD-skip (bits (l .digits) p) _ (i - (l .before + l .digits)) (i - l .before) (omega (arith, bits-length (l .digits) p))
 
-module _ (p n kind : ℕ) (words : List ℕ) (i r : ℕ) where
-  pub bit-prime : i < 16 → r ≡ p / 2 ^ (15 - i) % 2 → r ≡ getD (unpacked (card p n kind words)) i 0
-  bit-prime h e = rw unpacked-card (e ∙ sym (header-bit-prime p n kind _ i h))
+    header-bit-degree : i < l .before + l .digits + 4 → getD (header l p n kind rest) i 0 ≡ (n - 1) / 2 ^ (l .before + l .digits + 3 - i) % 2
+    header-bit-degree k = behind-prime ∙ getD-here 4 (n - 1) _ (i - (l .before + l .digits)) (l .before + l .digits + 3 - i) (omega arith)
 
-  pub bit-degree : 16 ≤ i → i < 20 → r ≡ (n - 1) / 2 ^ (19 - i) % 2 → r ≡ getD (unpacked (card p n kind words)) i 0
-  bit-degree l h e = rw unpacked-card (e ∙ sym (header-bit-degree p n kind _ i l h))
+  module _ (h : l .before + l .digits + 4 ≤ i) where
+    behind-degree : getD (header l p n kind rest) i 0 ≡ getD (bits 4 kind ++ (replicate (l .after) 0 ++ rest)) (i - (l .before + l .digits + 4)) 0
+    behind-degree =
+        behind-prime (omega arith)
+        ∙ getD-skip (bits 4 (n - 1)) _ (i - (l .before + l .digits + 4)) (i - (l .before + l .digits)) (omega (arith, bits-length 4 (n - 1)))
 
-  pub bit-kind : 20 ≤ i → i < 24 → r ≡ kind / 2 ^ (23 - i) % 2 → r ≡ getD (unpacked (card p n kind words)) i 0
-  bit-kind l h e = rw unpacked-card (e ∙ sym (header-bit-kind p n kind _ i l h))
+    header-bit-kind : i < l .before + l .digits + 8 → getD (header l p n kind rest) i 0 ≡ kind / 2 ^ (l .before + l .digits + 7 - i) % 2
+    header-bit-kind k = behind-degree ∙ getD-here 4 kind _ (i - (l .before + l .digits + 4)) (l .before + l .digits + 7 - i) (omega arith)
 
-  pub bit-words : (w : ℕ) → 24 ≤ i → w ≡ width p → r ≡ getD (allBits w words) (i - 24) 0 → r ≡ getD (unpacked (card p n kind words)) i 0
-  bit-words w l ew e =
-      rw unpacked-card
-      (e
-      ∙ ap (λ v. getD (allBits v words) (i - 24) 0) ew
-      ∙ sym (header-bit-rest p n kind (allBits (width p) words ++ replicate (fillCount p n kind words) 0) i l ∙ getD-zeros (allBits (width p) words) (fillCount p n kind words) (i - 24)))
+  header-bit-after : l .before + l .digits + 8 ≤ i → i < headerBits l → getD (header l p n kind rest) i 0 ≡ 0
+  header-bit-after h k =
+      behind-degree (omega arith)
+      ∙ getD-skip (bits 4 kind) _ (i - (l .before + l .digits + 8)) (i - (l .before + l .digits + 4)) (omega (arith, bits-length 4 kind))
+      ∙ getD-zero (l .after) rest (i - (l .before + l .digits + 8)) (omega arith)
+
+  header-bit-rest : headerBits l ≤ i → getD (header l p n kind rest) i 0 ≡ getD rest (i - headerBits l) 0
+  header-bit-rest h =
+      rw header-split (getD-skip (header l p n kind []) rest (i - headerBits l) i (omega (arith, header-place l p n kind (i - headerBits l))))
+
+module _ (p n kind : ℕ) (words : List ℕ) (i r : ℕ) (l : Layout) (e : l ≡ layout (isOver p)) where
+  -- the bits of the card, in the layout that the writer uses
+  rest : List ℕ
+  rest = allBits (width p) words ++ replicate (fillCount p n kind words) 0
+
+  card-is : unpacked (card p n kind words) ≡ header l p n kind rest
+  unfolding rest
+  card-is = unpacked-card p n kind words ∙ ap (λ (x : Layout). header x p n kind rest) (sym e)
+
+  pub bit-before : i < l .before → 0 ≡ getD (unpacked (card p n kind words)) i 0
+  bit-before h = rw card-is (sym (header-bit-before l p n kind rest i h))
+
+  pub bit-prime : l .before ≤ i → i < l .before + l .digits → r ≡ p / 2 ^ (l .before + l .digits - 1 - i) % 2 → r ≡ getD (unpacked (card p n kind words)) i 0
+  bit-prime h k f = rw card-is (f ∙ sym (header-bit-prime l p n kind rest i h k))
+
+  pub bit-degree : l .before + l .digits ≤ i → i < l .before + l .digits + 4 → r ≡ (n - 1) / 2 ^ (l .before + l .digits + 3 - i) % 2
+      → r ≡ getD (unpacked (card p n kind words)) i 0
+  bit-degree h k f = rw card-is (f ∙ sym (header-bit-degree l p n kind rest i h k))
+
+  pub bit-kind : l .before + l .digits + 4 ≤ i → i < l .before + l .digits + 8 → r ≡ kind / 2 ^ (l .before + l .digits + 7 - i) % 2
+      → r ≡ getD (unpacked (card p n kind words)) i 0
+  bit-kind h k f = rw card-is (f ∙ sym (header-bit-kind l p n kind rest i h k))
+
+  pub bit-after : l .before + l .digits + 8 ≤ i → i < headerBits l → 0 ≡ getD (unpacked (card p n kind words)) i 0
+  bit-after h k = rw card-is (sym (header-bit-after l p n kind rest i h k))
+
+  pub bit-words : (w : ℕ) → headerBits l ≤ i → w ≡ width p → r ≡ getD (allBits w words) (i - headerBits l) 0 → r ≡ getD (unpacked (card p n kind words)) i 0
+  unfolding rest
+  bit-words w h ew f =
+      rw card-is
+      (f
+      ∙ ap (λ v. getD (allBits v words) (i - headerBits l) 0) ew
+      ∙ sym (header-bit-rest l p n kind rest i h ∙ getD-zeros (allBits (width p) words) (fillCount p n kind words) (i - headerBits l)))
 
 -- eight bits from place 8·k on are byte k
 pub byte-end : (p n kind : ℕ) (words : List ℕ) (k j value : ℕ) → value ≡ fieldAt (unpacked (card p n kind words)) (8 * k) j → j ≤ 8 → 8 ≤ j → k < length (card p n kind words)

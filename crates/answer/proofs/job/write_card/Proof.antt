@@ -6,14 +6,8 @@ use Rattle.answer.proofs.job.PairCard.{prime-fits, words-few, card-writ
 use Rattle.answer.proofs.job.write_card.Statement.{statement}
 use Rattle.answer.proofs.job.write_card.Tie as tie
 
-width-requires : tie.Need-width-requires
-width-requires c κs = search prime-fits
-
-bit-count-requires : tie.Need-bit-count-requires
-bit-count-requires c κs = (omega arith, search words-few)
-
-add-size : tie.Need-add-size
-add-size c = search needs
+byte-count-requires : tie.Need-byte-count-requires
+byte-count-requires c κs = (search prime-fits, search words-few)
 
 slice-relend-prefix-write : tie.Need-slice-relend-prefix-write
 slice-relend-prefix-write c = search needs
@@ -34,9 +28,7 @@ pub write-card-spec : {M : Type 1} → statement M
 write-card-spec =
     tie.close
     (tie.spec
-    width-requires
-    bit-count-requires
-    add-size
+    byte-count-requires
     slice-relend-prefix-write
     slice-aggregate-write
     write-requires

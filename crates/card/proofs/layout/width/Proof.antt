@@ -8,10 +8,10 @@ use Rattle.card.proofs.layout.width.Statement.{statement}
 use Rattle.card.proofs.layout.width.Tie as tie
 
 abbrev Inv-loop : tie.InvT-loop
-Inv-loop p w₀ power₀ w power = (power ≡ 2 ^ w) × (w ≤ width p) × (1 ≤ power) × (width p ≤ 16)
+Inv-loop p w₀ power₀ w power = (power ≡ 2 ^ w) × (w ≤ width p) × (1 ≤ power) × (width p ≤ 20)
 
 abbrev μ-loop : tie.MeasureT-loop
-μ-loop p w₀ power₀ w power = 65536 - power
+μ-loop p w₀ power₀ w power = 2 ^ 20 - power
 
 loop-holds : tie.Need-loop-holds Inv-loop μ-loop
 loop-holds c = (search needs, search needs, search needs, search width-most)

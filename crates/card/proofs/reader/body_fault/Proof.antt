@@ -1,11 +1,14 @@
 -- `reader::body_fault`: one law for each return.
 use borrow.Author.Needs.{needs}
-use Rattle.card.proofs.reader.ReadFaults.{body-length, body-fill, body-word, body-none}
+use Rattle.card.proofs.reader.ReadFaults.{header-first, body-length, body-fill, body-word, body-none}
 use Rattle.card.proofs.reader.body_fault.Statement.{statement}
 use Rattle.card.proofs.reader.body_fault.Tie as tie
 
 width-requires : tie.Need-width-requires
 width-requires c κs = search needs
+
+header-bits-requires : tie.Need-header-bits-requires
+header-bits-requires c κs = search needs
 
 bit-count-requires : tie.Need-bit-count-requires
 bit-count-requires c κs = search needs
@@ -16,8 +19,8 @@ add-if1 c = search needs
 returns : tie.Need-returns
 returns c = search body-length
 
-zero-from-requires : tie.Need-zero-from-requires
-zero-from-requires c κs = search needs
+is-filled-requires : tie.Need-is-filled-requires
+is-filled-requires c κs = (search needs, search header-first, search needs)
 
 words-below-requires : tie.Need-words-below-requires
 words-below-requires c κs = search needs
@@ -36,10 +39,11 @@ body-fault-spec =
     tie.close
     (tie.spec
     width-requires
+    header-bits-requires
     bit-count-requires
     add-if1
     returns
-    zero-from-requires
+    is-filled-requires
     words-below-requires
     returns-2
     returns-3

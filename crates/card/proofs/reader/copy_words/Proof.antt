@@ -12,11 +12,11 @@ use Rattle.card.proofs.reader.copy_words.Statement.{statement}
 use Rattle.card.proofs.reader.copy_words.Tie as tie
 
 abbrev Inv-loop : tie.InvT-loop
-Inv-loop card w count words₀ k₀ words k =
-    (length words ≡ length words₀) × (length words₀ ≡ 64) × (k ≤ length words₀) × (length (entries card w count) ≡ length words₀) × (words ≡ painted words₀ (entry (entries card w count)) k)
+Inv-loop card start w count words₀ k₀ words k =
+    (length words ≡ length words₀) × (length words₀ ≡ 64) × (k ≤ length words₀) × (length (entries card start w count) ≡ length words₀) × (words ≡ painted words₀ (entry (entries card start w count)) k)
 
 abbrev μ-loop : tie.MeasureT-loop
-μ-loop card w count words₀ k₀ words k = length words₀ - k
+μ-loop card start w count words₀ k₀ words k = length words₀ - k
 
 loop-holds : tie.Need-loop-holds Inv-loop μ-loop
 loop-holds c = (refl, search needs, search needs, search entries-length, search painted-none)

@@ -6,10 +6,7 @@ use Rattle.card.proofs.reader.entry.Statement.{statement}
 use Rattle.card.proofs.reader.entry.Tie as tie
 
 word-requires : tie.Need-word-requires
-word-requires c κs = (search needs, search needs, search place-fits)
-
-cast-result : tie.Need-cast-result
-cast-result c = search needs
+word-requires c κs = (search needs, search needs, search needs, search place-fits)
 
 returns : tie.Need-returns
 returns c = search entry-word
@@ -18,4 +15,4 @@ returns-2 : tie.Need-returns-2
 returns-2 c = search entry-zero
 
 pub entry-spec : {M : Type 1} → statement M
-entry-spec = tie.close (tie.spec word-requires cast-result returns returns-2)
+entry-spec = tie.close (tie.spec word-requires returns returns-2)

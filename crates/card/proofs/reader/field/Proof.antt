@@ -1,6 +1,6 @@
 -- `reader::field`: after j turns the value is the number in the first j bits.
 use mathlib.Core.Path.{_≡_}
-use Prim.Native.Nat.{_≤_, _<_, _-_}
+use Prim.Native.Nat.{_≤_, _<_, _-_, _^_}
 use borrow.Author.Needs.{needs}
 use Rattle.card.specs.Bits.{unpacked}
 use Rattle.card.specs.Card.{fieldAt}
@@ -9,7 +9,7 @@ use Rattle.card.proofs.reader.field.Statement.{statement}
 use Rattle.card.proofs.reader.field.Tie as tie
 
 abbrev Inv-loop : tie.InvT-loop
-Inv-loop card i w value₀ j₀ value j = (j ≤ w) × (value ≡ fieldAt (unpacked card) i j) × (value < 65536)
+Inv-loop card i w value₀ j₀ value j = (j ≤ w) × (value ≡ fieldAt (unpacked card) i j) × (value < 2 ^ 20)
 
 abbrev μ-loop : tie.MeasureT-loop
 μ-loop card i w value₀ j₀ value j = w - j

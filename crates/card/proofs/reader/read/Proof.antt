@@ -1,7 +1,6 @@
 -- `reader::read`: refused, nothing is written; else the fields and the words are those of the card.
-use native.Mathlib.Omega.{arith}
 use borrow.Author.Needs.{needs}
-use Rattle.card.proofs.Answers.{refused-prime, refused-degree, refused-kind, refused-output, room-is, header-there, words-there, accepted-prime, accepted-degree, accepted-kind, accepted-output}
+use Rattle.card.proofs.Answers.{refused-prime, refused-degree, refused-kind, refused-output, room-is, header-there, bytes-there, words-there, accepted-number, accepted-prime, accepted-degree, accepted-kind, accepted-output}
 use Rattle.card.proofs.reader.read.Statement.{statement}
 use Rattle.card.proofs.reader.read.Tie as tie
 
@@ -14,17 +13,14 @@ same-length c = search needs
 returns : tie.Need-returns
 returns c = (search needs, (search refused-prime, (search refused-degree, (search refused-kind, search refused-output))))
 
-field-requires : tie.Need-field-requires
-field-requires c κs = (search needs, omega (arith, header-there _ _ _ (c .before .fault .ensures) (c .if1 .left)), search needs)
+is-wide-requires : tie.Need-is-wide-requires
+is-wide-requires c κs = search bytes-there
 
-field-requires-2 : tie.Need-field-requires-2
-field-requires-2 c κs = (search needs, omega (arith, header-there _ _ _ (c .before .before .fault .ensures) (c .before .if1 .left)), search needs)
+header-requires : tie.Need-header-requires
+header-requires c κs = (search needs, search header-there)
 
-add-n : tie.Need-add-n
-add-n c = search needs
-
-field-requires-3 : tie.Need-field-requires-3
-field-requires-3 c κs = (search needs, omega (arith, header-there _ _ _ (c .before .before .before .fault .ensures) (c .before .before .if1 .left)), search needs)
+header-bits-requires : tie.Need-header-bits-requires
+header-bits-requires c κs = search needs
 
 width-requires : tie.Need-width-requires
 width-requires c κs = search needs
@@ -33,23 +29,13 @@ word-count-requires : tie.Need-word-count-requires
 word-count-requires c κs = search needs
 
 copy-words-requires : tie.Need-copy-words-requires
-copy-words-requires c κs =
-    let counted = c .before .word-count .ensures .0 in
-    let width = c .before .before .width .ensures .0 in
-    let kind = c .before .before .before in
-    let accepted = kind .before .before .before .if1 .left in
-    let number = kind .before .before .before .before .fault .ensures in (
-      search needs,
-      search needs,
-      words-there _ _ _ number accepted _ _ _ _ _ (kind .before .before .field .ensures .0) (kind .before .field2 .ensures .0) (kind .field3 .ensures .0) width counted,
-      room-is _ _ _ number accepted,
-    )
+copy-words-requires c κs = (search needs, search needs, search needs, search words-there, search room-is)
 
 same-length-2 : tie.Need-same-length-2
 same-length-2 c = search needs
 
 returns-2 : tie.Need-returns-2
-returns-2 c = (search needs, (search accepted-prime, (search accepted-degree, (search accepted-kind, search accepted-output))))
+returns-2 c = (search accepted-number, (search accepted-prime, (search accepted-degree, (search accepted-kind, search accepted-output))))
 
 pub read-spec : {M : Type 1} → statement M
 read-spec =
@@ -58,10 +44,9 @@ read-spec =
     fault-requires
     same-length
     returns
-    field-requires
-    field-requires-2
-    add-n
-    field-requires-3
+    is-wide-requires
+    header-requires
+    header-bits-requires
     width-requires
     word-count-requires
     copy-words-requires

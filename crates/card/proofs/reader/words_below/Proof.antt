@@ -11,16 +11,16 @@ use Rattle.card.proofs.reader.words_below.Statement.{statement}
 use Rattle.card.proofs.reader.words_below.Tie as tie
 
 abbrev Inv-loop : tie.InvT-loop
-Inv-loop card p w count k₀ k = (k ≤ count) × (allBelow p (fieldsAt (unpacked card) 24 w count) ≡ allBelow p (drop k (fieldsAt (unpacked card) 24 w count)))
+Inv-loop card p start w count k₀ k = (k ≤ count) × (allBelow p (fieldsAt (unpacked card) start w count) ≡ allBelow p (drop k (fieldsAt (unpacked card) start w count)))
 
 abbrev μ-loop : tie.MeasureT-loop
-μ-loop card p w count k₀ k = count - k
+μ-loop card p start w count k₀ k = count - k
 
 loop-holds : tie.Need-loop-holds Inv-loop μ-loop
 loop-holds c = (search needs, refl)
 
 word-requires : tie.Need-word-requires Inv-loop μ-loop
-word-requires c κs = (search needs, search needs, search place-fits)
+word-requires c κs = (search needs, search needs, search needs, search place-fits)
 
 returns : tie.Need-returns Inv-loop μ-loop
 returns c = search words-fail

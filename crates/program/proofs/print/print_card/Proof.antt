@@ -19,7 +19,7 @@ slice-aggregate-put-pair : tie.Need-slice-aggregate-put-pair
 slice-aggregate-put-pair c = prefix-length _ _ (omega arith)
 
 put-pair-requires : tie.Need-put-pair-requires
-put-pair-requires c κs = (prefix-most (c .before .before .before .write-card .result) 131 _ (omega arith), omega arith)
+put-pair-requires c κs = (prefix-most (c .before .before .before .write-card .result) 166 _ (omega arith), omega arith)
 
 same-length : tie.Need-same-length
 same-length c = search needs

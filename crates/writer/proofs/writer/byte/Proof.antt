@@ -1,6 +1,6 @@
 -- `writer::byte`: byte k is the field of eight bits at place 8·k, which grows by one bit in each turn.
 use mathlib.Core.Path.{_≡_}
-use Prim.Native.Nat.{_-_, _*_, _≤_, _<_}
+use Prim.Native.Nat.{_-_, _*_, _^_, _≤_, _<_}
 use borrow.Author.Needs.{needs}
 use Rattle.card.specs.Bits.{unpacked}
 use Rattle.card.specs.Card.{card, fieldAt}
@@ -10,7 +10,7 @@ use Rattle.writer.proofs.writer.byte.Statement.{statement}
 use Rattle.writer.proofs.writer.byte.Tie as tie
 
 abbrev Inv-loop : tie.InvT-loop
-Inv-loop p n kind w words k value₀ j₀ value j = (j ≤ 8) × (value ≡ fieldAt (unpacked (card p n kind words)) (8 * k) j) × (value < 65536)
+Inv-loop p n kind w words k value₀ j₀ value j = (j ≤ 8) × (value ≡ fieldAt (unpacked (card p n kind words)) (8 * k) j) × (value < 2 ^ 20)
 
 abbrev μ-loop : tie.MeasureT-loop
 μ-loop p n kind w words k value₀ j₀ value j = 8 - j

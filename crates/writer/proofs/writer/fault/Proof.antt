@@ -25,14 +25,8 @@ returns-3 c = search write-kind
 returns-4 : tie.Need-returns-4
 returns-4 c = search write-count
 
-width-requires : tie.Need-width-requires
-width-requires c κs = search prime-most
-
-bit-count-requires : tie.Need-bit-count-requires
-bit-count-requires c κs = search needs
-
-add-if5 : tie.Need-add-if5
-add-if5 c = search needs
+byte-count-requires : tie.Need-byte-count-requires
+byte-count-requires c κs = (search prime-most, search needs)
 
 returns-5 : tie.Need-returns-5
 returns-5 c = search write-size
@@ -57,9 +51,7 @@ fault-spec =
     word-count-requires
     returns-3
     returns-4
-    width-requires
-    bit-count-requires
-    add-if5
+    byte-count-requires
     returns-5
     below-requires
     returns-6

@@ -1,6 +1,4 @@
 -- `writer::word_bit`: bit i stands in word i / w, behind i % w others.
-use Prim.Native.Nat.{_/_}
-use native.Mathlib.Omega.{arith}
 use borrow.Author.Needs.{needs}
 use Rattle.writer.proofs.writer.WrittenBits.{behind-fits, word-digit, word-past}
 use Rattle.writer.proofs.writer.word_bit.Statement.{statement}
@@ -15,9 +13,6 @@ mul-digit c = search needs
 shared-slice-read-digit : tie.Need-shared-slice-read-digit
 shared-slice-read-digit c = search needs
 
-cast-digit : tie.Need-cast-digit
-cast-digit c = omega (arith, c .shared-slice-known2 .given (c .before .before .before .args .i / c .before .before .before .args .w))
-
 sub-digit : tie.Need-sub-digit
 sub-digit c = search needs
 
@@ -27,8 +22,8 @@ rem-digit c = search needs
 sub-digit-2 : tie.Need-sub-digit-2
 sub-digit-2 c = search behind-fits
 
-cast-digit-2 : tie.Need-cast-digit-2
-cast-digit-2 c = search needs
+cast-digit : tie.Need-cast-digit
+cast-digit c = search needs
 
 digit-requires : tie.Need-digit-requires
 digit-requires c κs = search needs
@@ -46,11 +41,10 @@ word-bit-spec =
     div-k
     mul-digit
     shared-slice-read-digit
-    cast-digit
     sub-digit
     rem-digit
     sub-digit-2
-    cast-digit-2
+    cast-digit
     digit-requires
     returns
     returns-2)

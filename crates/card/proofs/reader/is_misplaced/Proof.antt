@@ -1,0 +1,14 @@
+-- `reader::is_misplaced`: one law for each return.
+use borrow.Author.Needs.{needs}
+use Rattle.card.proofs.reader.ReadFaults.{not-misplaced, misplaced-decides}
+use Rattle.card.proofs.reader.is_misplaced.Statement.{statement}
+use Rattle.card.proofs.reader.is_misplaced.Tie as tie
+
+returns : tie.Need-returns
+returns c = search not-misplaced
+
+returns-2 : tie.Need-returns-2
+returns-2 c = search misplaced-decides
+
+pub is-misplaced-spec : {M : Type 1} → statement M
+is-misplaced-spec = tie.close (tie.spec returns returns-2)
