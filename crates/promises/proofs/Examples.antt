@@ -10,7 +10,7 @@ use Rattle.algebra.specs.Lists.{all, equal, first, range}
 use Rattle.answer.specs.Answer.{part, cardPart, ringText, printed, pairLine, pairCardText, cardText, answerText}
 use Rattle.text.specs.Ascii.{ascii}
 use Rattle.card.specs.Bits.{bits, numberFrom, bytes, packed, unpacked}
-use Rattle.card.specs.Card.{width, badKind, allBits, card, cardLength, writeNumber, writeOutput, fieldAt, cardPrime, cardDegree, cardKind, fieldsAt, cardWords, fillBits, readNumber}
+use Rattle.card.specs.Card.{width, badKind, allBits, header, card, cardLength, writeNumber, writeOutput, fieldAt, isWide, cardPrime, cardDegree, cardKind, fieldsAt, cardWords, badHeader, badLayout, fillOf, fillBits, readNumber}
 use Rattle.roots.specs.Roots.{zeta, radicand, rootOfRatio}
 use Rattle.galois.specs.Eigenvector.{firstNonZero}
 use Rattle.galois.specs.Tower.{exponent}
@@ -35,11 +35,11 @@ use Rattle.promises.proofs.Listed.{listed, found, outputs}
 use Rattle.promises.proofs.Refused.{words-counted, factor-divides, indivisible-refused, divisor-refused, second-refused}
 
 pub examples : Examples
-unfolding hasDivisor dividesTest residues prefixed all equal first range bits numberFrom bytes packed width allBits card badKind cardLength writeNumber
+unfolding hasDivisor dividesTest residues prefixed all equal first range bits numberFrom bytes packed width allBits header card badKind cardLength writeNumber
     writeOutput zeta radicand rootOfRatio firstNonZero exponent divides findable findNumber isPrime badPrime isDegree badDegree badLength badWord allBelow congruencesHold checkNumberOr
     monic polynomialProduct sum scale constant shift top timesX product power residueOfX substitute modulusAt padded valid validAs validHeld viewAs
     view pairedHeld eachGroup converted tableNumber validWork looked counted imagesIn stateFrom stateNumber fullNumber convertNumber convertOutput unpacked fieldAt cardPrime cardDegree cardKind
-    fieldsAt cardWords fillBits readNumber part cardPart ringText printed pairLine pairCardText cardText
+    fieldsAt isWide cardWords badHeader badLayout fillOf fillBits readNumber part cardPart ringText printed pairLine pairCardText cardText
     answerText ascii
 examples =
     let A : FinderValues 3 2 (1 ∷ 0 ∷ []) (2 ∷ 1 ∷ []) 2 2 (0 ∷ 1 ∷ []) (1 ∷ 2 ∷ []) (1 ∷ 2 ∷ []) (1 ∷ 2 ∷ []) =

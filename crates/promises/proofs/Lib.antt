@@ -1,6 +1,7 @@
--- The proofs of all promises, of the examples, the sheets, the reports, the maps, the towers and the table in parts.
+-- The proofs of all promises, of the examples, the cards, the sheets, the reports, the maps, the towers and the table in parts.
 mod Promises
 mod Examples
+mod CardExamples
 mod SheetExamples
 mod LedgerExamples
 mod MapsExamples

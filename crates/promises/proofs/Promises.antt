@@ -19,6 +19,7 @@ use Rattle.sheet.proofs.Theorem as Sheet
 use Rattle.text.proofs.Theorem as Text
 use Rattle.text.proofs.ColumnDetermines as Columns
 use Rattle.promises.specs.Promises.{Promises}
+use Rattle.promises.proofs.CardExamples as CardExamples
 use Rattle.promises.proofs.Examples as Examples
 use Rattle.promises.proofs.LedgerExamples as LedgerExamples
 use Rattle.promises.proofs.MapsExamples as MapsExamples
@@ -61,7 +62,10 @@ promises =
       divisors-together = Pair.divisors-together;
       written-reads-back = Card.written-reads-back;
       read-is-written = Card.read-is-written;
+      one-meaning = Card.one-meaning;
       longest-card = Card.longest-card;
+      narrow-as-before = Card.narrow-as-before;
+      card-examples = CardExamples.card-examples;
       decimal-is-decimal = Text.decimal-is-decimal;
       column-determines = Columns.column-determines;
       long-input = Answer.long-input;

@@ -1,6 +1,7 @@
--- All that is promised, the examples of document 01, two sheets, two reports, the maps of one pair, two towers and a table in parts.
+-- All that is promised, the examples of document 01, wide cards, two sheets, two reports, the maps of one pair, two towers and a table in parts.
 pub mod Promises
 pub mod Examples
+pub mod CardExamples
 pub mod SheetExamples
 pub mod LedgerExamples
 pub mod MapsExamples

@@ -6,7 +6,7 @@
 -- public call is proved equal to a definition: `check` to checkNumber, `find` to findNumber, findOutputS and findOutputR, and so on. The
 -- promises say what these definitions mean.
 use Rattle.answer.specs.Theorem.{LongInput}
-use Rattle.card.specs.Theorem.{WrittenReadsBack, ReadIsWritten, LongestCard}
+use Rattle.card.specs.Theorem.{WrittenReadsBack, ReadIsWritten, OneMeaning, LongestCard, NarrowAsBefore}
 use Rattle.runs.specs.OverC.{ValuesFollow}
 use Rattle.finder.specs.Rounds.{RoundsDecide, OneTower}
 use Rattle.finder.specs.Scalings.{ScalingsAreCounted}
@@ -26,6 +26,7 @@ use Rattle.runs.specs.OpenTable.{PartByPart, TableKeepsPair, EndCloses, ClearDr
 use Rattle.runs.specs.Theorem.{EveryRun, RefusalsChangeNothing, GroupByGroup, BackAgain, ConversionAddsRecord, OthersKeepLedger}
 use Rattle.sheet.specs.Theorem.{SheetHasLength, SheetDetermines}
 use Rattle.text.specs.Theorem.{DecimalIsDecimal, ColumnDetermines}
+use Rattle.promises.specs.CardExamples.{CardExamples}
 use Rattle.promises.specs.Examples.{Examples}
 use Rattle.promises.specs.LedgerExamples.{LedgerExamples}
 use Rattle.promises.specs.MapsExamples.{MapsExamples}
@@ -80,10 +81,14 @@ pub record Promises : Type 0 where
   pub irreducible-modulus : IrreducibleTheorem
   pub congruences-suffice : CongruencesTheorem
   pub divisors-together : DivisorsTogether
-  -- Cards (card/specs/Theorem.antt)
+  -- Cards, and wide cards, request S-9 (card/specs/Theorem.antt): what is written reads back, what is read is written so, no two cards mean the same, the longest has 166
+  -- bytes, and up to 65,535 a card has the bytes that it had before the request; wide cards computed (specs/CardExamples.antt)
   pub written-reads-back : WrittenReadsBack
   pub read-is-written : ReadIsWritten
+  pub one-meaning : OneMeaning
   pub longest-card : LongestCard
+  pub narrow-as-before : NarrowAsBefore
+  pub card-examples : CardExamples
   -- Text (text/specs/Theorem.antt), and what the program prints (answer/specs/Theorem.antt)
   pub decimal-is-decimal : DecimalIsDecimal
   pub column-determines : ColumnDetermines
