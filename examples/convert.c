@@ -3,7 +3,7 @@
 #include "yokebean.h"
 #include <stdio.h>
 
-static void print(const char *name, const uint16_t *words, size_t count) {
+static void print(const char *name, const uint32_t *words, size_t count) {
     printf("%s", name);
     for (size_t i = 0; i < count; i++)
         printf("%s%u", i ? ", " : "[", words[i]);
@@ -11,8 +11,8 @@ static void print(const char *name, const uint16_t *words, size_t count) {
 }
 
 int main(void) {
-    const uint16_t t1[] = {5, 0, 0}, t2[] = {4, 0, 0}, table[] = {1, 2, 3, 0, 1, 0};
-    uint16_t s[3], r[3], image[6], again[6];
+    const uint32_t t1[] = {5, 0, 0}, t2[] = {4, 0, 0}, table[] = {1, 2, 3, 0, 1, 0};
+    uint32_t s[3], r[3], image[6], again[6];
     if (yokebean_find(7, 3, t1, 3, t2, 3, s, 3, r, 3) != 0 || yokebean_check(7, 3, t1, 3, t2, 3, s, 3, r, 3) != 0)
         return 1;
     print("S = ", s, 3);
