@@ -2,7 +2,7 @@
 //! function passes its slices on to the proved call of the same name in include/yokebean.h, which `rt staticlib capi` builds; none of them panics,
 //! and a refused call leaves every slice as it was.
 //!
-//! A model is a prime p up to 65,535, a degree n from 1 to 16 and a monic modulus of degree n; its n lower words are passed, constant first.
+//! A model is a prime p up to 1,048,575, a degree n from 1 to 16 and a monic modulus of degree n; its n lower words are passed, constant first.
 //! A residue is n words below p, in the same order.
 //!
 //! ```
@@ -48,7 +48,7 @@ pub struct Size {
 /// assert_eq!(out, [2, 2]); // 1 + (1 + 2X)
 /// # Ok::<(), yokebean::Refusal>(())
 /// ```
-pub fn substitute(size: Size, t: &[u16], s: &[u16], u: &[u16], out: &mut [u16]) -> Result<(), Refusal> {
+pub fn substitute(size: Size, t: &[u32], s: &[u32], u: &[u32], out: &mut [u32]) -> Result<(), Refusal> {
     let Size { p, n } = size;
     // each pointer comes with the length of its own slice, and no slice overlaps one that is written, here and below
     let number = unsafe {
@@ -65,7 +65,7 @@ pub fn substitute(size: Size, t: &[u16], s: &[u16], u: &[u16], out: &mut [u16]) 
 /// assert_eq!(out, [2, 1]); // X·(1 + X) = X + X², and X² = −1
 /// # Ok::<(), yokebean::Refusal>(())
 /// ```
-pub fn product(size: Size, t: &[u16], u: &[u16], v: &[u16], out: &mut [u16]) -> Result<(), Refusal> {
+pub fn product(size: Size, t: &[u32], u: &[u32], v: &[u32], out: &mut [u32]) -> Result<(), Refusal> {
     let Size { p, n } = size;
     let number =
         unsafe { raw::yokebean_product(p, n, t.as_ptr(), t.len(), u.as_ptr(), u.len(), v.as_ptr(), v.len(), out.as_mut_ptr(), out.len()) };
@@ -80,7 +80,7 @@ pub fn product(size: Size, t: &[u16], u: &[u16], v: &[u16], out: &mut [u16]) -> 
 /// assert_eq!(out, [1, 0]); // the group of the field of 9 elements has order 8
 /// # Ok::<(), yokebean::Refusal>(())
 /// ```
-pub fn power(size: Size, t: &[u16], u: &[u16], k: u64, out: &mut [u16]) -> Result<(), Refusal> {
+pub fn power(size: Size, t: &[u32], u: &[u32], k: u64, out: &mut [u32]) -> Result<(), Refusal> {
     let Size { p, n } = size;
     let number = unsafe { raw::yokebean_power(p, n, t.as_ptr(), t.len(), u.as_ptr(), u.len(), k, out.as_mut_ptr(), out.len()) };
     answer(number, ())
@@ -94,8 +94,9 @@ pub fn power(size: Size, t: &[u16], u: &[u16], k: u64, out: &mut [u16]) -> Resul
 /// let size = Size { p: 3, n: 2 };
 /// assert_eq!(irreducible(size, &[1, 0]), Ok(())); // X² + 1
 /// assert_eq!(irreducible(size, &[2, 0]), Err(Refusal::FirstModulusFactors)); // X² + 2 = (X + 1)(X + 2)
+/// assert_eq!(irreducible(Size { p: 1_048_573, n: 2 }, &[2, 0]), Ok(())); // the same modulo the largest p
 /// ```
-pub fn irreducible(size: Size, t: &[u16]) -> Result<(), Refusal> {
+pub fn irreducible(size: Size, t: &[u32]) -> Result<(), Refusal> {
     let Size { p, n } = size;
     let number = unsafe { raw::yokebean_irreducible(p, n, t.as_ptr(), t.len()) };
     answer(number, ())
@@ -113,7 +114,7 @@ pub fn irreducible(size: Size, t: &[u16]) -> Result<(), Refusal> {
 /// // modulo X² the congruences hold for S = R = X, but X has no inverse
 /// assert_eq!(check(size, &[0, 0], &[0, 0], &[0, 1], &[0, 1]), Err(Refusal::FirstModulusFactors));
 /// ```
-pub fn check(size: Size, t1: &[u16], t2: &[u16], s: &[u16], r: &[u16]) -> Result<(), Refusal> {
+pub fn check(size: Size, t1: &[u32], t2: &[u32], s: &[u32], r: &[u32]) -> Result<(), Refusal> {
     let Size { p, n } = size;
     let number =
         unsafe { raw::yokebean_check(p, n, t1.as_ptr(), t1.len(), t2.as_ptr(), t2.len(), s.as_ptr(), s.len(), r.as_ptr(), r.len()) };
@@ -130,7 +131,7 @@ pub fn check(size: Size, t1: &[u16], t2: &[u16], s: &[u16], r: &[u16]) -> Result
 /// assert_eq!(out, [2, 1, 1, 2]); // 2 + X and 1 + 2X: modulo X² + X + 2 both have the square −1
 /// # Ok::<(), yokebean::Refusal>(())
 /// ```
-pub fn maps(size: Size, t1: &[u16], t2: &[u16], s: &[u16], r: &[u16], out: &mut [u16]) -> Result<(), Refusal> {
+pub fn maps(size: Size, t1: &[u32], t2: &[u32], s: &[u32], r: &[u32], out: &mut [u32]) -> Result<(), Refusal> {
     let Size { p, n } = size;
     let number = unsafe {
         raw::yokebean_maps(
@@ -168,7 +169,7 @@ pub fn sheet_length(n: u32) -> usize {
 /// assert_eq!(lines, ["T1       1      0", "T2      -1      1", "S        1     -1", "R        1     -1"]);
 /// # Ok::<(), yokebean::Refusal>(())
 /// ```
-pub fn sheet(size: Size, t1: &[u16], t2: &[u16], s: &[u16], r: &[u16], out: &mut [u8]) -> Result<(), Refusal> {
+pub fn sheet(size: Size, t1: &[u32], t2: &[u32], s: &[u32], r: &[u32], out: &mut [u8]) -> Result<(), Refusal> {
     let Size { p, n } = size;
     let number = unsafe {
         raw::yokebean_sheet(
@@ -218,7 +219,7 @@ pub fn sheet(size: Size, t1: &[u16], t2: &[u16], s: &[u16], r: &[u16], out: &mut
 /// assert_eq!((s, r), ([0, 0, 1, 1], [1, 0, 0, 1]));
 /// # Ok::<(), yokebean::Refusal>(())
 /// ```
-pub fn find(size: Size, t1: &[u16], t2: &[u16], s: &mut [u16], r: &mut [u16]) -> Result<(), Refusal> {
+pub fn find(size: Size, t1: &[u32], t2: &[u32], s: &mut [u32], r: &mut [u32]) -> Result<(), Refusal> {
     let Size { p, n } = size;
     let number =
         unsafe { raw::yokebean_find(p, n, t1.as_ptr(), t1.len(), t2.as_ptr(), t2.len(), s.as_mut_ptr(), s.len(), r.as_mut_ptr(), r.len()) };
@@ -293,7 +294,7 @@ impl Session {
     /// assert_eq!(loaded.load(Size { p: 3, n: 2 }, &[1, 0], &[2, 1]), Err(Refusal::SessionNotEmpty));
     /// # Ok::<(), Refusal>(())
     /// ```
-    pub fn load(self, size: Size, t1: &[u16], t2: &[u16]) -> Result<Self, Refusal> {
+    pub fn load(self, size: Size, t1: &[u32], t2: &[u32]) -> Result<Self, Refusal> {
         Self::next(unsafe { raw::yokebean_session_load(self.0, size.p, size.n, t1.as_ptr(), t1.len(), t2.as_ptr(), t2.len()) })
     }
 
@@ -310,7 +311,7 @@ impl Session {
     /// assert_eq!(loaded.propose(&[0, 1], &[0, 1]), Err(Refusal::SecondModulusFactors));
     /// # Ok::<(), Refusal>(())
     /// ```
-    pub fn propose(self, s: &[u16], r: &[u16]) -> Result<Self, Refusal> {
+    pub fn propose(self, s: &[u32], r: &[u32]) -> Result<Self, Refusal> {
         Self::next(unsafe { raw::yokebean_session_propose(self.0, s.as_ptr(), s.len(), r.as_ptr(), r.len()) })
     }
 
@@ -340,7 +341,7 @@ impl Session {
     /// assert_eq!(next.records().count(), 1);
     /// # Ok::<(), yokebean::Refusal>(())
     /// ```
-    pub fn forward(self, table: &[u16], out: &mut [u16]) -> Result<Self, Refusal> {
+    pub fn forward(self, table: &[u32], out: &mut [u32]) -> Result<Self, Refusal> {
         Self::next(unsafe { raw::yokebean_session_forward(self.0, table.as_ptr(), table.len(), out.as_mut_ptr(), out.len()) })
     }
 
@@ -357,7 +358,7 @@ impl Session {
     /// assert_eq!(next.records().count(), 1);
     /// # Ok::<(), yokebean::Refusal>(())
     /// ```
-    pub fn back(self, table: &[u16], out: &mut [u16]) -> Result<Self, Refusal> {
+    pub fn back(self, table: &[u32], out: &mut [u32]) -> Result<Self, Refusal> {
         Self::next(unsafe { raw::yokebean_session_back(self.0, table.as_ptr(), table.len(), out.as_mut_ptr(), out.len()) })
     }
 
@@ -447,6 +448,10 @@ impl Session {
 }
 
 /// What a card is: kind 1 a job (T1, T2), kind 2 a pair card (T1, T2, S, R).
+///
+/// A card has p in 16 bits, n − 1 in 4, kind in 4, then its coefficients in w bits each, where w is the number of binary digits of p − 1, then the
+/// fill: zero bits up to the end of the last byte. A wide card, for p above 65,535, starts with 16 zero bits, then has p in 20, n − 1 in 4, kind in 4
+/// and 4 zero bits, which count as fill; the coefficients follow as in any card. An older reader gives 1 for it. The longest card has 166 bytes.
 #[derive(Clone, Copy, Debug, PartialEq, Eq)]
 pub struct Card {
     pub size: Size,
@@ -454,24 +459,34 @@ pub struct Card {
 }
 
 impl Card {
-    /// Reads a card; its coefficients go into the first places of `words`, which has 64, the rest become 0. Refusals 3, 11, 1, 12, 11, 13, 4.
+    /// Reads a card; its coefficients go into the first places of `words`, which has 64, the rest become 0. Refusals 3, 11, 1, 28, 12, 11, 13, 4: first
+    /// an 11 for under 3 bytes, or under 6 where the card begins with two zero bytes, and after 12 for another length than the card's.
     ///
     /// ```
-    /// use yokebean::{Card, Size};
+    /// use yokebean::{Card, Refusal, Size};
     ///
     /// let mut words = [9; 64];
     /// let card = Card::read(&[0x00, 0x03, 0x12, 0x49, 0x66], &mut words)?;
     /// assert_eq!(card, Card { size: Size { p: 3, n: 2 }, kind: 2 });
     /// assert_eq!(words[..9], [1, 0, 2, 1, 1, 2, 1, 2, 0]);
-    /// # Ok::<(), yokebean::Refusal>(())
+    ///
+    /// // a wide card: p = 65,537 and n = 1 in six bytes, T1 = X + 1 and T2 = X + 65,536 in 17 bits each
+    /// let mut bytes = [0x00, 0x00, 0x10, 0x00, 0x10, 0x10, 0x00, 0x00, 0xC0, 0x00, 0x00];
+    /// let card = Card::read(&bytes, &mut words)?;
+    /// assert_eq!(card, Card { size: Size { p: 65_537, n: 1 }, kind: 1 });
+    /// assert_eq!(words[..3], [1, 65_536, 0]);
+    /// // and one with p = 17
+    /// bytes[2..5].copy_from_slice(&[0x00, 0x01, 0x10]);
+    /// assert_eq!(Card::read(&bytes, &mut words), Err(Refusal::CardTooWide));
+    /// # Ok::<(), Refusal>(())
     /// ```
-    pub fn read(bytes: &[u8], words: &mut [u16]) -> Result<Self, Refusal> {
+    pub fn read(bytes: &[u8], words: &mut [u32]) -> Result<Self, Refusal> {
         let found = unsafe { raw::yokebean_card_read(bytes.as_ptr(), bytes.len(), words.as_mut_ptr(), words.len()) };
         answer(found.number, Card { size: Size { p: found.p, n: found.n }, kind: found.kind })
     }
 
-    /// Writes the card of 2n (kind 1) or 4n (kind 2) coefficients into a list of exactly its length: (24 + 2·kind·n·w + 7) / 8 bytes, rounded
-    /// down, where w is the number of binary digits of p − 1. Refusals 1, 2, 12, 3, 4.
+    /// Writes the card of 2n (kind 1) or 4n (kind 2) coefficients, a wide one exactly where p is above 65,535, into a list of exactly its length:
+    /// (24 + 2·kind·n·w + 7) / 8 bytes, rounded down, or for a wide card (48 + 2·kind·n·w + 7) / 8. Refusals 1, 2, 12, 3, 4.
     ///
     /// ```
     /// use yokebean::{Card, Size};
@@ -479,9 +494,13 @@ impl Card {
     /// let mut bytes = [0; 4];
     /// Card { size: Size { p: 3, n: 2 }, kind: 1 }.write(&[1, 0, 2, 1], &mut bytes)?;
     /// assert_eq!(bytes, [0x00, 0x03, 0x11, 0x49]);
+    ///
+    /// let mut bytes = [0; 11];
+    /// Card { size: Size { p: 65_537, n: 1 }, kind: 1 }.write(&[1, 65_536], &mut bytes)?;
+    /// assert_eq!(bytes, [0x00, 0x00, 0x10, 0x00, 0x10, 0x10, 0x00, 0x00, 0xC0, 0x00, 0x00]);
     /// # Ok::<(), yokebean::Refusal>(())
     /// ```
-    pub fn write(self, words: &[u16], bytes: &mut [u8]) -> Result<(), Refusal> {
+    pub fn write(self, words: &[u32], bytes: &mut [u8]) -> Result<(), Refusal> {
         let Card { size: Size { p, n }, kind } = self;
         let number = unsafe { raw::yokebean_card_write(p, n, kind, words.as_ptr(), words.len(), bytes.as_mut_ptr(), bytes.len()) };
         answer(number, ())

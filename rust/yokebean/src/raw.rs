@@ -1,8 +1,8 @@
 //! The calls of include/yokebean.h, as C has them. Each list is a pointer and the number of its words, and must be as many words long; a list that
 //! a call writes must not overlap another list of the call.
 
-type Words = *const u16;
-type Lent = *mut u16;
+type Words = *const u32;
+type Lent = *mut u32;
 
 /// A record of the ledger: direction 0 is forward, 1 back.
 #[repr(C)]
@@ -19,10 +19,10 @@ pub struct Held {
     pub state: u32,
     pub p: u32,
     pub n: u32,
-    pub t1: [u16; 16],
-    pub t2: [u16; 16],
-    pub s: [u16; 16],
-    pub r: [u16; 16],
+    pub t1: [u32; 16],
+    pub t2: [u32; 16],
+    pub s: [u32; 16],
+    pub r: [u32; 16],
 }
 
 /// A session's value: what the current session holds, as in [`Held`]; the ledger, of which the first `records` records count; and the open table.
@@ -34,10 +34,10 @@ pub struct Session {
     pub state: u32,
     pub p: u32,
     pub n: u32,
-    pub t1: [u16; 16],
-    pub t2: [u16; 16],
-    pub s: [u16; 16],
-    pub r: [u16; 16],
+    pub t1: [u32; 16],
+    pub t2: [u32; 16],
+    pub s: [u32; 16],
+    pub r: [u32; 16],
     pub records: u32,
     pub ledger: [Record; 512],
     pub open: u32,

@@ -13,7 +13,7 @@ macro_rules! refusals {
         ///
         /// let refusal = check(Size { p: 9, n: 2 }, &[1, 0], &[2, 1], &[2, 1], &[1, 1]).unwrap_err();
         /// assert_eq!(refusal, Refusal::NotPrime);
-        /// assert_eq!(refusal.to_string(), "p is below 2, above 65,535 or not prime");
+        /// assert_eq!(refusal.to_string(), "p is below 2, above 1,048,575 or not prime");
         /// ```
         #[derive(Clone, Copy, Debug, PartialEq, Eq, Hash)]
         #[non_exhaustive]
@@ -56,7 +56,7 @@ macro_rules! refusals {
 }
 
 refusals! {
-    1 NotPrime "p is below 2, above 65,535 or not prime"
+    1 NotPrime "p is below 2, above 1,048,575 or not prime"
     2 Degree "n is not 1 to 16"
     3 Length "a list of coefficients, read or written, or the output list of a card, sheet or report has the wrong length"
     4 Word "a coefficient is p or more"
@@ -64,11 +64,11 @@ refusals! {
     6 FirstModulusFactors "T1, or T where a call has one modulus, has a monic divisor of degree 1 to n − 1"
     7 SecondModulusFactors "T2 has a monic divisor of degree 1 to n − 1"
     8 Congruence "one of the four congruences fails"
-    9 TableLength "words to convert: above 32,768 or not a multiple of n; or a part that would bring its table above 4,294,967,295 residues"
+    9 TableLength "words to convert: above 16,384 or not a multiple of n; or a part that would bring its table above 4,294,967,295 residues"
     10 OutputLength "output length differs from input length"
-    11 CardLength "card under 3 bytes, or not of its exact length"
+    11 CardLength "card under 3 bytes, or under 6 where it begins with two zero bytes, or not of its exact length"
     12 CardKind "kind is neither 1 nor 2"
-    13 FillBit "a fill bit is 1"
+    13 FillBit "a fill bit is 1: after the last coefficient, or in the header of a wide card"
     21 SessionEmpty "the session is empty, and the call is propose, find, forward, back or begin"
     22 SessionWithoutPair "the session is loaded without a pair, and the call is forward, back or begin"
     23 SessionNotEmpty "the session is not empty, and the call is load"
@@ -76,6 +76,7 @@ refusals! {
     25 LedgerFull "the ledger holds 512 records"
     26 NoTableOpen "no table is open, and the call is feed or end"
     27 TableOpen "a table is open, and the call is begin, forward or back"
+    28 CardTooWide "a wide card has a p below 65,536"
 }
 
 impl std::error::Error for Refusal {}

@@ -39,7 +39,7 @@ impl OpenTable {
     /// assert_eq!(table.feed(&[2], &mut [0]), Err(Refusal::TableLength));
     /// # Ok::<(), Refusal>(())
     /// ```
-    pub fn feed(self, part: &[u16], out: &mut [u16]) -> Result<Self, Refusal> {
+    pub fn feed(self, part: &[u32], out: &mut [u32]) -> Result<Self, Refusal> {
         let step = unsafe { raw::yokebean_session_feed(self.0 .0, part.as_ptr(), part.len(), out.as_mut_ptr(), out.len()) };
         Session::next(step).map(OpenTable)
     }
@@ -54,7 +54,7 @@ impl OpenTable {
     /// assert_eq!(table.load(Size { p: 2, n: 1 }, &[1], &[0]), Err(Refusal::SessionNotEmpty));
     /// # Ok::<(), Refusal>(())
     /// ```
-    pub fn load(self, size: Size, t1: &[u16], t2: &[u16]) -> Result<Self, Refusal> {
+    pub fn load(self, size: Size, t1: &[u32], t2: &[u32]) -> Result<Self, Refusal> {
         self.0.load(size, t1, t2).map(OpenTable)
     }
 
@@ -72,7 +72,7 @@ impl OpenTable {
     /// assert_eq!(image, [2, 1]);
     /// # Ok::<(), Refusal>(())
     /// ```
-    pub fn propose(self, s: &[u16], r: &[u16]) -> Result<Self, Refusal> {
+    pub fn propose(self, s: &[u32], r: &[u32]) -> Result<Self, Refusal> {
         self.0.propose(s, r).map(OpenTable)
     }
 
