@@ -4,6 +4,7 @@ pub mod cards;
 mod case;
 pub mod earlier;
 mod known;
+pub mod limits;
 pub mod maps;
 pub mod moduli;
 pub mod pairs;
@@ -19,7 +20,8 @@ use std::collections::BTreeMap;
 use std::fmt::Debug;
 
 /// The numbers that a call can give. Each must have occurred with it.
-const NUMBERS: [(&str, &[u32]); 30] = [
+const NUMBERS: [(&str, &[u32]); 31] = [
+    ("every_p", &[1, 2]),
     ("product", &[0, 1, 2, 3, 4]),
     ("power", &[0, 1, 2, 3, 4]),
     ("substitute", &[0, 1, 2, 3, 4]),
@@ -46,9 +48,9 @@ const NUMBERS: [(&str, &[u32]); 30] = [
     ("waiting_find", &[0, 21, 24, 5, 6, 7]),
     ("table_forward", &[0]),
     ("table_back", &[0]),
-    ("card_read", &[0, 3, 11, 1, 12, 13, 4]),
+    ("card_read", &[0, 3, 11, 1, 28, 12, 13, 4]),
     ("card_write", &[0, 1, 2, 12, 3, 4]),
-    ("fieldcard", &[0, 11, 1, 12, 13, 4, 5, 6, 7, 8]),
+    ("fieldcard", &[0, 11, 1, 28, 12, 13, 4, 5, 6, 7, 8]),
     ("fieldcard_ring", &[0]),
 ];
 

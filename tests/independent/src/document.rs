@@ -10,6 +10,7 @@ pub mod earlier;
 pub mod eigenvector;
 pub mod finder;
 pub mod held;
+mod kept;
 pub mod maps;
 pub mod model;
 pub mod polynomial;
@@ -20,9 +21,9 @@ pub mod tower;
 use divisor::has_divisor;
 use model::Model;
 
-/// Whether p is a prime from 2 to 65,535: no d with d·d ≤ p divides it.
+/// Whether p is a prime from 2 to 1,048,575: no d with d·d ≤ p divides it.
 pub fn is_prime(p: u32) -> bool {
-    (2..=65_535).contains(&p) && (2..).take_while(|d| d * d <= p).all(|d| p % d != 0)
+    (2..=1_048_575).contains(&p) && (2..).take_while(|d| d * d <= p).all(|d| p % d != 0)
 }
 
 /// Refusal 1 or 2, or 0.
@@ -37,10 +38,10 @@ pub fn model_number(p: u32, n: u32) -> u32 {
 }
 
 /// Refusal 3 or 4, or 0: `read` are the lists of coefficients that a call reads, `lent` those it writes.
-pub fn list_number(p: u32, n: u32, read: &[&[u16]], lent: &[&[u16]]) -> u32 {
+pub fn list_number(p: u32, n: u32, read: &[&[u32]], lent: &[&[u32]]) -> u32 {
     if read.iter().chain(lent).any(|list| list.len() != n as usize) {
         3
-    } else if read.iter().any(|list| list.iter().any(|&word| u32::from(word) >= p)) {
+    } else if read.iter().any(|list| list.iter().any(|&word| word >= p)) {
         4
     } else {
         0
@@ -48,7 +49,7 @@ pub fn list_number(p: u32, n: u32, read: &[&[u16]], lent: &[&[u16]]) -> u32 {
 }
 
 /// The first that applies among 1 to 4.
-pub fn number(p: u32, n: u32, read: &[&[u16]], lent: &[&[u16]]) -> u32 {
+pub fn number(p: u32, n: u32, read: &[&[u32]], lent: &[&[u32]]) -> u32 {
     first(&[&|| model_number(p, n), &|| list_number(p, n, read, lent)])
 }
 
@@ -58,7 +59,7 @@ pub fn first(numbers: &[&dyn Fn() -> u32]) -> u32 {
 }
 
 /// The four congruences.
-pub fn congruences(p: u32, t1: &[u16], t2: &[u16], s: &[u16], r: &[u16]) -> bool {
+pub fn congruences(p: u32, t1: &[u32], t2: &[u32], s: &[u32], r: &[u32]) -> bool {
     let (k1, k2) = (Model::new(p, t1), Model::new(p, t2));
     k2.modulus_at(t1, s) == k2.constant(0)
         && k1.modulus_at(t2, r) == k1.constant(0)
@@ -67,7 +68,7 @@ pub fn congruences(p: u32, t1: &[u16], t2: &[u16], s: &[u16], r: &[u16]) -> bool
 }
 
 /// Refusal 6 or 7, or 0.
-pub fn field_number(p: u32, t1: &[u16], t2: &[u16]) -> u32 {
+pub fn field_number(p: u32, t1: &[u32], t2: &[u32]) -> u32 {
     if has_divisor(p, t1) {
         6
     } else if has_divisor(p, t2) {
@@ -78,25 +79,25 @@ pub fn field_number(p: u32, t1: &[u16], t2: &[u16]) -> u32 {
 }
 
 /// Refusal 6, 7 or 8, or 0: "Acceptance means field moduli and the four congruences".
-pub fn pair_number(p: u32, t1: &[u16], t2: &[u16], s: &[u16], r: &[u16]) -> u32 {
+pub fn pair_number(p: u32, t1: &[u32], t2: &[u32], s: &[u32], r: &[u32]) -> u32 {
     first(&[&|| field_number(p, t1, t2), &|| if congruences(p, t1, t2, s, r) { 0 } else { 8 }])
 }
 
-pub fn check(p: u32, n: u32, t1: &[u16], t2: &[u16], s: &[u16], r: &[u16]) -> u32 {
+pub fn check(p: u32, n: u32, t1: &[u32], t2: &[u32], s: &[u32], r: &[u32]) -> u32 {
     first(&[&|| number(p, n, &[t1, t2, s, r], &[]), &|| pair_number(p, t1, t2, s, r)])
 }
 
 /// The test of one modulus.
-pub fn irreducible(p: u32, n: u32, t: &[u16]) -> u32 {
+pub fn irreducible(p: u32, n: u32, t: &[u32]) -> u32 {
     first(&[&|| number(p, n, &[t], &[]), &|| if has_divisor(p, t) { 6 } else { 0 }])
 }
 
 /// Refusals 5, 6 and 7, or 0.
-pub fn finder_number(p: u32, n: u32, t1: &[u16], t2: &[u16]) -> u32 {
+pub fn finder_number(p: u32, n: u32, t1: &[u32], t2: &[u32]) -> u32 {
     first(&[&|| if finder::method(p, n).is_some() { 0 } else { 5 }, &|| field_number(p, t1, t2)])
 }
 
-pub fn find(p: u32, n: u32, t1: &[u16], t2: &[u16], s: &[u16], r: &[u16]) -> (u32, Vec<u16>, Vec<u16>) {
+pub fn find(p: u32, n: u32, t1: &[u32], t2: &[u32], s: &[u32], r: &[u32]) -> (u32, Vec<u32>, Vec<u32>) {
     match first(&[&|| number(p, n, &[t1, t2], &[s, r]), &|| finder_number(p, n, t1, t2)]) {
         0 => {
             let pair = finder::pair(p, t1, t2);

@@ -1,12 +1,12 @@
-//! Examples A to J of document 01, D as request S-6 and F as request S-3 has it, the report, the sheet and the maps of A, degrees that are powers of
-//! p, and a table in parts under A while D waits, on the independent implementation itself.
+//! Examples A to J of document 01, D as request S-6, F as request S-3 and J as request S-9 has it, the report, the sheet and the maps of A, degrees
+//! that are powers of p, a table in parts under A while D waits, and wide cards, on the independent implementation itself.
 
 use crate::document::eigenvector::zeta_and_a;
 use crate::document::finder::{self, method, Method};
 use crate::document::{self, card, earlier, is_prime, maps, model::Model, session::Session, sheet, tower};
 
 /// A modulus for p = 2, a and α of each round, and P.
-type Tower = (&'static [u16], &'static [[&'static [u16]; 2]], &'static [u16]);
+type Tower = (&'static [u32], &'static [[&'static [u32]; 2]], &'static [u32]);
 
 /// X² + X + 1; A, X⁴ + X + 1; B, X⁴ + X³ + 1; C, X⁴ + X³ + X² + X + 1.
 const TOWERS: [Tower; 4] = [
@@ -25,7 +25,7 @@ fn towers_hold() {
         assert_eq!(tower::express(&model, &listed.last().unwrap().1), expressed);
     }
     let [a, b, c] = [TOWERS[1].0, TOWERS[2].0, TOWERS[3].0];
-    let found = |t1: &[u16], t2: &[u16]| document::find(2, t1.len() as u32, t1, t2, &vec![9; t1.len()], &vec![9; t1.len()]);
+    let found = |t1: &[u32], t2: &[u32]| document::find(2, t1.len() as u32, t1, t2, &vec![9; t1.len()], &vec![9; t1.len()]);
     assert_eq!(found(&[1, 1], &[1, 1]), (0, vec![0, 1], vec![0, 1]));
     assert_eq!(found(a, b), (0, vec![0, 0, 1, 1], vec![1, 0, 0, 1]));
     assert_eq!(found(b, c), (0, vec![1, 1, 0, 0], vec![1, 1, 0, 0]));
@@ -56,9 +56,22 @@ fn table_holds() {
     assert_eq!(table.clear(), Session::new());
 }
 
+/// A wide card of the smallest p, with T1 = X + 1 and T2 = X + 65,536 in 17 bits each, and the same header with p = 17; what is too short for it; and
+/// how long cards are.
+fn wide_cards_hold() {
+    let mut bytes = [0x00, 0x00, 0x10, 0x00, 0x10, 0x10, 0x00, 0x00, 0xC0, 0x00, 0x00];
+    assert_eq!(card::card(65_537, 1, 1, &[1, 65_536]), bytes);
+    assert_eq!(card::read(&bytes, 64), Ok(card::Card { p: 65_537, n: 1, kind: 1, words: vec![1, 65_536] }));
+    bytes[2..5].copy_from_slice(&[0x00, 0x01, 0x10]);
+    assert_eq!([&bytes[..], &bytes[..5], &bytes[..3]].map(|card| card::read(card, 64)), [28, 11, 11].map(Err));
+    assert_eq!(card::card(1_048_573, 2, 2, &[0; 8])[..6], [0x00, 0x00, 0xFF, 0xFF, 0xD1, 0x20]);
+    assert_eq!([65_521, 65_537, 1_048_573].map(|p| card::card_length(p, 16, 2)), [131, 142, 166]);
+}
+
 pub fn hold() {
     towers_hold();
     table_holds();
+    wide_cards_hold();
     let pair = finder::pair(3, &[1, 0], &[2, 1]);
     assert_eq!((zeta_and_a(3, 2), &pair.alpha1[..], &pair.alpha2[..]), ((2, 2), &[0, 1][..], &[1, 2][..]));
     assert_eq!((&pair.s[..], &pair.r[..]), (&[1, 2][..], &[1, 2][..]));
@@ -89,7 +102,7 @@ pub fn hold() {
     assert_eq!(card::card(7, 3, 1, &[5, 0, 0, 4, 0, 0]), [0x00, 0x07, 0x21, 0xA0, 0x40, 0x00]);
     assert_eq!(card::fieldcard(&[0x00, 0x03, 0x11, 0x49]), "PAIR 0003124966\n");
     assert_eq!(card::fieldcard(&[0x00, 0x03, 0x12, 0x49, 0x66]), "VALID\n");
-    assert!(is_prime(65_521) && !is_prime(65_535) && !is_prime(65_537));
+    assert_eq!([65_521, 65_535, 65_537, 1_048_573, 1_048_575, 1_048_583].map(is_prime), [true, false, true, true, false, false]);
     let (number, out) = sheet::sheet(3, 2, [&[1, 0], &[2, 1], &[1, 2], &[1, 2]], &[0; 240]);
     let lines: Vec<&str> = std::str::from_utf8(&out).unwrap().lines().collect();
     assert_eq!((number, lines[1]), (0, format!("T2      -1      1{}", " ".repeat(42)).as_str()));

@@ -12,11 +12,11 @@ pub fn new() -> Session {
     unsafe { raw::yokebean_session_new() }
 }
 
-pub fn load(session: Session, p: u32, n: u32, t1: &[u16], t2: &[u16]) -> Step {
+pub fn load(session: Session, p: u32, n: u32, t1: &[u32], t2: &[u32]) -> Step {
     unsafe { raw::yokebean_session_load(session, p, n, t1.as_ptr(), t1.len(), t2.as_ptr(), t2.len()) }
 }
 
-pub fn propose(session: Session, s: &[u16], r: &[u16]) -> Step {
+pub fn propose(session: Session, s: &[u32], r: &[u32]) -> Step {
     unsafe { raw::yokebean_session_propose(session, s.as_ptr(), s.len(), r.as_ptr(), r.len()) }
 }
 
@@ -24,7 +24,7 @@ pub fn find(session: Session) -> Step {
     unsafe { raw::yokebean_session_find(session) }
 }
 
-pub fn convert(session: Session, forward: bool, table: &[u16], out: &mut [u16]) -> Step {
+pub fn convert(session: Session, forward: bool, table: &[u32], out: &mut [u32]) -> Step {
     let call = if forward { raw::yokebean_session_forward } else { raw::yokebean_session_back };
     unsafe { call(session, table.as_ptr(), table.len(), out.as_mut_ptr(), out.len()) }
 }
@@ -34,7 +34,7 @@ pub fn begin(session: Session, forward: bool) -> Step {
     unsafe { call(session) }
 }
 
-pub fn feed(session: Session, part: &[u16], out: &mut [u16]) -> Step {
+pub fn feed(session: Session, part: &[u32], out: &mut [u32]) -> Step {
     unsafe { raw::yokebean_session_feed(session, part.as_ptr(), part.len(), out.as_mut_ptr(), out.len()) }
 }
 

@@ -13,7 +13,7 @@ use std::thread;
 type Part = fn(u64, &mut Tally);
 
 /// Each part, and how many inputs it draws; none waits for another, so that all processors have work.
-const PARTS: [(Part, u64); 11] = [
+const PARTS: [(Part, u64); 12] = [
     (compare::residues::run, 12_000),
     (compare::moduli::run, 6_000),
     (compare::pairs::run, 12_000),
@@ -25,6 +25,7 @@ const PARTS: [(Part, u64); 11] = [
     (compare::triangles::run, 1),
     (compare::earlier::run, 1),
     (compare::program::run, 200),
+    (compare::limits::run, 1),
 ];
 
 fn compared(part: Part, number: u64) -> Tally {

@@ -29,13 +29,15 @@ impl Random {
         choices[self.below(choices.len() as u64) as usize]
     }
 
-    /// A prime, small, large or between.
+    /// A prime, small, large or between; one in five is above 65,535.
     pub fn prime(&mut self) -> u32 {
         if self.once_in(2) {
-            return self.one_of(&[2, 3, 5, 7, 11, 13, 17, 251, 257, 1009, 32_749, 65_519, 65_521]);
+            let small = [2, 3, 5, 7, 11, 13, 17, 251, 257, 1009, 32_749, 65_519, 65_521];
+            return self.one_of(&[&small[..], &[65_537, 65_539, 982_801, 1_048_433, 1_048_573]].concat());
         }
+        let limit = if self.once_in(8) { 1 << 20 } else { 1 << 16 };
         loop {
-            let p = self.below(65_536) as u32;
+            let p = self.below(limit) as u32;
             if is_prime(p) {
                 return p;
             }
@@ -45,7 +47,9 @@ impl Random {
     /// Mostly a prime; sometimes a number that refusal 1 is for.
     pub fn modulus_number(&mut self) -> u32 {
         if self.once_in(12) {
-            self.one_of(&[0, 1, 4, 6, 253 * 257, 63_001, 65_025, 65_535, 65_536, 65_537, 1_048_573, u32::MAX])
+            let (squares, products) = ([63_001, 1_042_441], [253 * 257, 1_009 * 1_021, 1_019 * 1_021]);
+            let around = [0, 1, 4, 6, 65_535, 65_536, 1_048_575, 1_048_576, 1_048_577, 1_048_583, 2_147_483_647, u32::MAX];
+            self.one_of(&[&squares[..], &products, &around].concat())
         } else {
             self.prime()
         }
@@ -60,13 +64,19 @@ impl Random {
         }
     }
 
+    /// A word that 4 is for, the lowest bits of some being those of smaller words.
+    pub fn large_word(&mut self, p: u32) -> u32 {
+        let word = self.one_of(&[p, p.saturating_add(1), 1 << 16, 1 << 20, 1 << 31, u32::MAX]);
+        word.max(p)
+    }
+
     /// A list of n words, each below p with equal chances.
-    pub fn uniform(&mut self, p: u32, n: u32) -> Vec<u16> {
-        (0..n).map(|_| self.below(p.into()) as u16).collect()
+    pub fn uniform(&mut self, p: u32, n: u32) -> Vec<u32> {
+        (0..n).map(|_| self.below(p.into()) as u32).collect()
     }
 
     /// A modulus that has divisors or has none, as asked; a modulus of degree 1 has none.
-    pub fn modulus(&mut self, p: u32, n: u32, divisors: bool) -> Vec<u16> {
+    pub fn modulus(&mut self, p: u32, n: u32, divisors: bool) -> Vec<u32> {
         let mut t = self.words(p, n, false);
         if self.once_in(5) {
             t[1..].fill(0); // X^n + t0
@@ -78,24 +88,24 @@ impl Random {
     }
 
     /// A list of n words below p; where `damaged` says so, of another length or with a word of p or more once in a while.
-    pub fn words(&mut self, p: u32, n: u32, damaged: bool) -> Vec<u16> {
+    pub fn words(&mut self, p: u32, n: u32, damaged: bool) -> Vec<u32> {
         let mut length = n.min(64) as usize;
         if damaged && self.once_in(12) {
             length = self.one_of(&[0, n.min(64).saturating_sub(1), n.min(64) + 1, 16, 17]) as usize;
         }
-        let top = p.clamp(1, 65_536) - 1;
+        let top = p.max(1) - 1;
         let style = self.below(6);
-        let mut list: Vec<u16> = (0..length)
+        let mut list: Vec<u32> = (0..length)
             .map(|_| match style {
                 0 => 0,
-                1 => top as u16,
-                2 => (self.below(2) * u64::from(top)) as u16,
-                _ => self.below(u64::from(top) + 1) as u16,
+                1 => top,
+                2 => self.below(2) as u32 * top,
+                _ => self.below(u64::from(top) + 1) as u32,
             })
             .collect();
-        if damaged && length > 0 && p < 65_536 && self.once_in(12) {
+        if damaged && length > 0 && self.once_in(12) {
             let place = self.below(length as u64) as usize;
-            list[place] = if self.once_in(2) { p as u16 } else { u16::MAX };
+            list[place] = self.large_word(p);
         }
         list
     }

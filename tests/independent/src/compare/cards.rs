@@ -1,4 +1,7 @@
-//! Reader and writer: valid cards of every n and many p, every change of a single bit in some of them, lengths one off, random bytes.
+//! Reader and writer: valid cards of every n and many p, every change of a single bit in some of them, lengths one off, random bytes; and wide cards
+//! whose numbers are known beforehand.
+
+mod wide;
 
 use super::Tally;
 use crate::document::card;
@@ -6,7 +9,8 @@ use crate::library;
 use crate::random::Random;
 use yokebean::{raw, Card, Size};
 
-fn compare_read(bytes: &[u8], lent: Vec<u16>, tally: &mut Tally) {
+/// The number on which both sides agree.
+fn compare_read(bytes: &[u8], lent: Vec<u32>, tally: &mut Tally) -> u32 {
     let (number, fields, list) = match card::read(bytes, lent.len()) {
         Ok(found) => {
             let mut words = found.words;
@@ -18,13 +22,16 @@ fn compare_read(bytes: &[u8], lent: Vec<u16>, tally: &mut Tally) {
     let mut words = lent;
     let got = unsafe { raw::yokebean_card_read(bytes.as_ptr(), bytes.len(), words.as_mut_ptr(), words.len()) };
     tally.compare("card_read", number, &bytes, &((got.number, (got.p, got.n, got.kind)), words), &((number, fields), list));
+    number
 }
 
-fn compare_write(p: u32, n: u32, kind: u32, words: &[u16], lent: Vec<u8>, tally: &mut Tally) {
+/// The same.
+fn compare_write(p: u32, n: u32, kind: u32, words: &[u32], lent: Vec<u8>, tally: &mut Tally) -> u32 {
     let want = card::write(p, n, kind, words, &lent);
     let mut bytes = lent;
     let number = library::number(Card { size: Size { p, n }, kind }.write(words, &mut bytes));
     tally.compare("card_write", want.0, &(p, n, kind, words), &(number, bytes), &want);
+    number
 }
 
 fn bytes(random: &mut Random, count: usize) -> Vec<u8> {
@@ -33,6 +40,7 @@ fn bytes(random: &mut Random, count: usize) -> Vec<u8> {
 
 pub fn run(rounds: u64, tally: &mut Tally) {
     let random = &mut Random::new(0xd1b5_4a32_d192_ed03);
+    wide::run(random, tally);
     for round in 0..rounds {
         let (p, n, kind) = (random.prime(), 1 + random.below(16) as u32, 1 + random.below(2) as u32);
         let words = random.words(p, 2 * kind * n, false);
@@ -46,15 +54,20 @@ pub fn run(rounds: u64, tally: &mut Tally) {
             1 => {
                 damaged.pop();
             }
-            2 => damaged = bytes(random, valid.len()),
-            3 => damaged.truncate(random.below(4) as usize),
+            2 => {
+                damaged = bytes(random, valid.len());
+                if random.once_in(2) {
+                    damaged[..2].fill(0);
+                }
+            }
+            3 => damaged.truncate(random.below(7) as usize),
             _ => {
                 let place = random.below(damaged.len() as u64) as usize;
                 damaged[place] ^= 1 << random.below(8);
             }
         }
         compare_read(&damaged, vec![9; 64], tally);
-        if round % 1000 == 0 {
+        if round % 500 == 0 {
             for bit in 0..8 * valid.len() {
                 let mut changed = valid.clone();
                 changed[bit / 8] ^= 1 << (bit % 8);

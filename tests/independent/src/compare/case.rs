@@ -11,10 +11,10 @@ use crate::random::Random;
 pub struct Case {
     pub p: u32,
     pub n: u32,
-    pub t1: Vec<u16>,
-    pub t2: Vec<u16>,
-    pub s: Vec<u16>,
-    pub r: Vec<u16>,
+    pub t1: Vec<u32>,
+    pub t2: Vec<u32>,
+    pub s: Vec<u32>,
+    pub r: Vec<u32>,
 }
 
 impl Case {
@@ -26,7 +26,7 @@ impl Case {
 }
 
 /// T2 is T1(aX + b) up to a factor, with S = aX + b and R = (X − b)/a: the congruences hold whether T1 has divisors or not.
-pub fn changed_variable(random: &mut Random, p: u32, n: u32, t1: Vec<u16>) -> Case {
+pub fn changed_variable(random: &mut Random, p: u32, n: u32, t1: Vec<u32>) -> Case {
     let a = 1 + random.below(u64::from(p) - 1);
     let b = random.below(p.into());
     let inverse = polynomial::power(p.into(), a, u64::from(p) - 2);
@@ -43,7 +43,7 @@ pub fn changed_variable(random: &mut Random, p: u32, n: u32, t1: Vec<u16>) -> Ca
         f = next;
     }
     let scale = polynomial::power(prime, inverse, n.into());
-    let t2: Vec<u16> = f[..n as usize].iter().map(|&x| (x * scale % prime) as u16).collect();
+    let t2: Vec<u32> = f[..n as usize].iter().map(|&x| (x * scale % prime) as u32).collect();
     // the forward map sends X to aX + b, the backward map X to (X − b)/a
     let linear = |model: &Model, factor: u64, constant: u64| model.sum(&model.scaled(factor, &model.x()), &model.constant(constant));
     let s = linear(&Model::new(p, &t2), a, b);
@@ -51,7 +51,7 @@ pub fn changed_variable(random: &mut Random, p: u32, n: u32, t1: Vec<u16>) -> Ca
     Case { p, n, t1, t2, s, r }
 }
 
-fn found(p: u32, n: u32, t1: Vec<u16>, t2: Vec<u16>) -> Case {
+fn found(p: u32, n: u32, t1: Vec<u32>, t2: Vec<u32>) -> Case {
     let (number, s, r) = document::find(p, n, &t1, &t2, &vec![0; n as usize], &vec![0; n as usize]);
     assert_eq!(number, 0);
     Case { p, n, t1, t2, s, r }
@@ -73,10 +73,10 @@ pub fn damage(random: &mut Random, case: &mut Case) {
     let place = random.below(n as u64) as usize;
     let p = u64::from(case.p);
     match random.below(7) {
-        0 => case.s[place] = random.below(p) as u16,
-        1 => case.r[place] = random.below(p) as u16,
-        2 if random.once_in(2) => case.t1[place] = random.below(p) as u16,
-        2 => case.t2[place] = random.below(p) as u16,
+        0 => case.s[place] = random.below(p) as u32,
+        1 => case.r[place] = random.below(p) as u32,
+        2 if random.once_in(2) => case.t1[place] = random.below(p) as u32,
+        2 => case.t2[place] = random.below(p) as u32,
         // a map that preserves sums only
         3 => case.s = Model::new(case.p, &case.t2).scaled(random.below(p), &case.s),
         4 => std::mem::swap(&mut case.s, &mut case.r),
@@ -94,7 +94,7 @@ pub fn damage(random: &mut Random, case: &mut Case) {
             // a word at or above p
             let lists = [&mut case.t1, &mut case.t2, &mut case.s, &mut case.r];
             let list = lists.into_iter().nth(random.below(4) as usize).unwrap();
-            list[place] = case.p.saturating_add(random.below(2) as u32).min(65_535) as u16;
+            list[place] = random.large_word(case.p);
         }
     }
 }

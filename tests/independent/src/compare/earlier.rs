@@ -31,7 +31,7 @@ fn any_zeta(random: &mut Random, p: u64, n: u64) -> u64 {
 }
 
 /// For any ζ and any multiples of the eigenvectors, with each of the n numbers c: these are n different pairs.
-fn any_pairs(random: &mut Random, p: u32, t1: &[u16], t2: &[u16]) -> Vec<(Residue, Residue)> {
+fn any_pairs(random: &mut Random, p: u32, t1: &[u32], t2: &[u32]) -> Vec<(Residue, Residue)> {
     let zeta = any_zeta(random, p.into(), t1.len() as u64);
     let [k1, k2] = [t1, t2].map(|t| Model::new(p, t));
     let [alpha1, alpha2] = [&k1, &k2].map(|model| model.scaled(1 + random.below(model.p - 1), &eigenvector(model, zeta)));

@@ -23,12 +23,12 @@ fn changed_word(random: &mut Random, case: &Case) -> Case {
     let (mut case, p) = (case.clone(), u64::from(case.p));
     let list = if random.once_in(2) { &mut case.s } else { &mut case.r };
     let place = random.below(list.len() as u64) as usize;
-    list[place] = ((u64::from(list[place]) + 1 + random.below(p - 1)) % p) as u16;
+    list[place] = ((u64::from(list[place]) + 1 + random.below(p - 1)) % p) as u32;
     case
 }
 
 /// One modulus on both sides, S = R = X.
-fn identity(p: u32, n: u32, t: &[u16]) -> Case {
+fn identity(p: u32, n: u32, t: &[u32]) -> Case {
     let x = Model::new(p, t).x();
     Case { p, n, t1: t.to_vec(), t2: t.to_vec(), s: x.clone(), r: x }
 }
@@ -37,17 +37,17 @@ fn identity(p: u32, n: u32, t: &[u16]) -> Case {
 fn lost(p: u32, n: u32) -> Case {
     let zero = vec![0; n as usize];
     let mut t1 = zero.clone();
-    t1[n as usize - 1] = (p - 1) as u16;
+    t1[n as usize - 1] = p - 1;
     Case { p, n, t1, t2: zero.clone(), s: zero.clone(), r: zero }
 }
 
 /// Any S and R.
-fn unrelated(random: &mut Random, p: u32, n: u32, t1: &[u16], t2: &[u16]) -> Case {
+fn unrelated(random: &mut Random, p: u32, n: u32, t1: &[u32], t2: &[u32]) -> Case {
     Case { p, n, t1: t1.to_vec(), t2: t2.to_vec(), s: random.words(p, n, false), r: random.words(p, n, false) }
 }
 
 /// Over an irreducible modulus.
-fn over_field(random: &mut Random, p: u32, n: u32, field: &[u16]) -> Vec<Known> {
+fn over_field(random: &mut Random, p: u32, n: u32, field: &[u32]) -> Vec<Known> {
     let mut pair = changed_variable(random, p, n, field.to_vec());
     if random.once_in(2) {
         conjugate(&mut pair);
@@ -57,7 +57,7 @@ fn over_field(random: &mut Random, p: u32, n: u32, field: &[u16]) -> Vec<Known> 
 }
 
 /// Over a modulus with divisors, alone and beside an irreducible one.
-fn over_ring(random: &mut Random, p: u32, n: u32, field: &[u16], ring: &[u16]) -> Vec<Known> {
+fn over_ring(random: &mut Random, p: u32, n: u32, field: &[u32], ring: &[u32]) -> Vec<Known> {
     let pair = changed_variable(random, p, n, ring.to_vec());
     let wrong = changed_word(random, &pair);
     vec![
@@ -73,7 +73,7 @@ fn over_ring(random: &mut Random, p: u32, n: u32, field: &[u16], ring: &[u16]) -
 /// A case of every sort for each n and several p.
 pub fn draw_all(random: &mut Random) -> Vec<Known> {
     let mut cases = Vec::new();
-    for p in [2, 3, 5, 251, 65_521] {
+    for p in [2, 3, 5, 251, 65_521, 1_048_573] {
         for n in 1..=16 {
             let field = random.modulus(p, n, false);
             cases.extend(over_field(random, p, n, &field));

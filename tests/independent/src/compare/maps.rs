@@ -11,17 +11,17 @@ use crate::random::Random;
 use yokebean::{check, maps, Size};
 
 /// The number, and what the output list holds after the call.
-fn called(case: &Case, lent: &[u16]) -> (u32, Vec<u16>) {
+fn called(case: &Case, lent: &[u32]) -> (u32, Vec<u32>) {
     let Case { p, n, t1, t2, s, r } = case;
     let mut out = lent.to_vec();
     let number = library::number(maps(Size { p: *p, n: *n }, t1, t2, s, r, &mut out));
     (number, out)
 }
 
-fn assert_right(case: &Case, out: &[u16]) {
+fn assert_right(case: &Case, out: &[u32]) {
     let Case { p, n, t1, t2, s, r } = case;
     let (input, model) = ((p, n, t1, t2, s, r), Model::new(*p, t2));
-    let maps: Vec<&[u16]> = out.chunks(*n as usize).collect();
+    let maps: Vec<&[u32]> = out.chunks(*n as usize).collect();
     let ascending = maps.windows(2).all(|two| two[0].iter().rev().lt(two[1].iter().rev()));
     assert!(ascending, "{maps:?} of {input:?} are not in ascending order");
     for map in &maps {
@@ -38,8 +38,8 @@ fn assert_right(case: &Case, out: &[u16]) {
 /// The number on which both sides agree.
 fn compare_maps(case: &Case, length: usize, tally: &mut Tally) -> u32 {
     let Case { p, n, t1, t2, s, r } = case;
-    let lists: [&[u16]; 4] = [t1, t2, s, r];
-    let lent: Vec<u16> = (40_000..).take(length).collect();
+    let lists: [&[u32]; 4] = [t1, t2, s, r];
+    let lent: Vec<u32> = (40_000..).take(length).collect();
     let got = called(case, &lent);
     if got.0 == 0 {
         assert_right(case, &got.1);
@@ -69,9 +69,10 @@ fn any_length(random: &mut Random, n: u32) -> usize {
 
 /// Each number with those after it in the order applying as well.
 fn in_order(tally: &mut Tally) {
-    let calls: [(u32, u32, [&[u16]; 4], usize, u32); 15] = [
+    let calls: [(u32, u32, [&[u32]; 4], usize, u32); 16] = [
         (9, 17, [&[9], &[], &[], &[]], 3, 1),
-        (65_537, 0, [&[]; 4], 1, 1),
+        (1_048_583, 0, [&[]; 4], 1, 1),
+        (65_537, 0, [&[]; 4], 1, 2),
         (3, 17, [&[3], &[], &[], &[]], 3, 2),
         (3, 0, [&[]; 4], 0, 2),
         (3, 2, [&[3, 0], &[0, 0], &[0, 0], &[0, 0]], 3, 3),
@@ -87,7 +88,7 @@ fn in_order(tally: &mut Tally) {
         (3, 2, [&[1, 0], &[2, 1], &[2, 1], &[1, 1]], 4, 0),
     ];
     for (p, n, lists, length, known) in calls {
-        let [t1, t2, s, r] = lists.map(<[u16]>::to_vec);
+        let [t1, t2, s, r] = lists.map(<[u32]>::to_vec);
         assert_eq!(compare_maps(&Case { p, n, t1, t2, s, r }, length, tally), known);
     }
 }

@@ -12,22 +12,23 @@ use crate::random::Random;
 use yokebean::{irreducible, Size};
 
 /// The number on which both sides agree.
-fn compare(p: u32, n: u32, t: &[u16], tally: &mut Tally) -> u32 {
+fn compare(p: u32, n: u32, t: &[u32], tally: &mut Tally) -> u32 {
     let want = document::irreducible(p, n, t);
     tally.compare("irreducible", want, &(p, n, t), &library::number(irreducible(Size { p, n }, t)), &want);
     want
 }
 
 /// Both sides must give the number that is known beforehand.
-fn compare_known(p: u32, t: &[u16], known: u32, tally: &mut Tally) {
+fn compare_known(p: u32, t: &[u32], known: u32, tally: &mut Tally) {
     assert_eq!(compare(p, t.len() as u32, t, tally), known, "p = {p}, T = {t:?}");
 }
 
 /// Each number with those after it in the order applying as well.
 fn in_order(tally: &mut Tally) {
-    let calls: [(u32, u32, &[u16], u32); 11] = [
+    let calls: [(u32, u32, &[u32], u32); 12] = [
         (9, 17, &[9, 0], 1),
-        (65_537, 0, &[], 1),
+        (1_048_583, 0, &[], 1),
+        (65_537, 0, &[], 2),
         (0, 2, &[0, 0], 1),
         (3, 17, &[3; 16], 2),
         (3, 0, &[], 2),

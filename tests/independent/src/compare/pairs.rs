@@ -17,7 +17,7 @@ pub fn compare_check(case: &Case, tally: &mut Tally) -> u32 {
 }
 
 /// The number on which both sides agree, and what the two lists hold after the call.
-pub fn compare_find(p: u32, n: u32, t1: &[u16], t2: &[u16], lent: [Vec<u16>; 2], tally: &mut Tally) -> (u32, Vec<u16>, Vec<u16>) {
+pub fn compare_find(p: u32, n: u32, t1: &[u32], t2: &[u32], lent: [Vec<u32>; 2], tally: &mut Tally) -> (u32, Vec<u32>, Vec<u32>) {
     let want = document::find(p, n, t1, t2, &lent[0], &lent[1]);
     let [mut s, mut r] = lent;
     let number = library::number(find(Size { p, n }, t1, t2, &mut s, &mut r));

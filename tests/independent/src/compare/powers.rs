@@ -12,9 +12,9 @@ use crate::document::{divisor::has_divisor, is_prime, tower};
 use crate::random::Random;
 
 /// All irreducible moduli of the two smallest sizes: X² + X + 1; X⁴ + X + 1, X⁴ + X³ + 1 and X⁴ + X³ + X² + X + 1.
-const SMALLEST: [(u32, u32, &[&[u16]]); 2] = [(2, 2, &[&[1, 1]]), (2, 4, &[&[1, 1, 0, 0], &[1, 0, 0, 1], &[1, 1, 1, 1]])];
+const SMALLEST: [(u32, u32, &[&[u32]]); 2] = [(2, 2, &[&[1, 1]]), (2, 4, &[&[1, 1, 0, 0], &[1, 0, 0, 1], &[1, 1, 1, 1]])];
 
-fn compare(p: u32, t1: &[u16], t2: &[u16], known: u32, tally: &mut Tally) {
+fn compare(p: u32, t1: &[u32], t2: &[u32], known: u32, tally: &mut Tally) {
     let n = t1.len() as u32;
     let found = compare_find(p, n, t1, t2, [vec![7; t1.len()], vec![9; t1.len()]], tally);
     let mut calls = Calls::new(tally);
@@ -22,7 +22,7 @@ fn compare(p: u32, t1: &[u16], t2: &[u16], known: u32, tally: &mut Tally) {
     assert_eq!([found.0, calls.find(tally)], [known; 2], "p = {p}, T1 = {t1:?}, T2 = {t2:?}");
 }
 
-fn every_pair(p: u32, n: u32, irreducible: &[&[u16]], tally: &mut Tally) {
+fn every_pair(p: u32, n: u32, irreducible: &[&[u32]], tally: &mut Tally) {
     for t1 in all_lists(p, n) {
         for t2 in all_lists(p, n) {
             let known = match [&t1, &t2].map(|t| irreducible.contains(&&t[..])) {
@@ -36,7 +36,7 @@ fn every_pair(p: u32, n: u32, irreducible: &[&[u16]], tally: &mut Tally) {
 }
 
 fn every_irreducible_pair(p: u32, n: u32, tally: &mut Tally) {
-    let irreducible: Vec<Vec<u16>> = all_lists(p, n).filter(|t| !has_divisor(p, t)).collect();
+    let irreducible: Vec<Vec<u32>> = all_lists(p, n).filter(|t| !has_divisor(p, t)).collect();
     for t1 in &irreducible {
         for t2 in &irreducible {
             compare(p, t1, t2, 0, tally);
@@ -90,7 +90,7 @@ pub fn run(rounds: u64, tally: &mut Tally) {
             by_trial(random, p, n);
         }
     }
-    for p in (2..=31).chain([251, 65_521]).filter(|&p| is_prime(p)) {
+    for p in (2..=31).chain([251, 65_521, 1_048_573]).filter(|&p| is_prime(p)) {
         for n in (1..=16).filter(|&n| !is_findable(p, n)) {
             refused(random, p, n, tally);
         }

@@ -1,5 +1,5 @@
-//! The program `fieldcard`, run on cards of both kinds, damaged ones, pairs over moduli with divisors, jobs in degrees that are powers of p, refusals
-//! of each number that it can give, the longest card, no input, a closed input, input in parts and input that is too long.
+//! The program `fieldcard`, run on cards of both kinds, damaged ones, pairs over moduli with divisors, jobs in degrees that are powers of p, wide cards,
+//! refusals of each number that it can give, the longest cards, no input, a closed input, input in parts and input that is too long.
 
 use super::known::{draw_all, Known};
 use super::sizes::{self, POWERS};
@@ -61,7 +61,7 @@ fn compare_powers(random: &mut Random, tally: &mut Tally) {
     for (p, n) in POWERS {
         let [field, other] = [0; 2].map(|_| random.modulus(p, n, false));
         let ring = random.modulus(p, n, true);
-        let job = |t1: &[u16], t2: &[u16]| card::card(p, n, 1, &[t1, t2].concat());
+        let job = |t1: &[u32], t2: &[u32]| card::card(p, n, 1, &[t1, t2].concat());
         let jobs = [job(&field, &other), job(&ring, &field), job(&field, &ring)];
         assert_eq!(jobs.clone().map(|job| compare(&job, tally)), [0, 6, 7]);
         assert_eq!(compare(&pair_card(&card::fieldcard(&jobs[0])).unwrap(), tally), 0);
@@ -69,6 +69,24 @@ fn compare_powers(random: &mut Random, tally: &mut Tally) {
     for (p, n) in [(2, 3), (2, 6), (2, 12), (3, 6), (3, 12), (5, 10), (7, 14), (11, 4)] {
         let t = random.modulus(p, n, false);
         assert_eq!(compare(&card::card(p, n, 1, &[&t[..], &t].concat()), tally), 5);
+    }
+}
+
+/// Wide jobs and the pairs found for them: for the largest p, for the smallest, and with the longest answer, for the largest p for which 16 divides
+/// p − 1. Each is refused when it is cut short, has a small p or a fill bit in its header.
+fn compare_wide(random: &mut Random, tally: &mut Tally) {
+    for (p, n, longest) in [(1_048_573, 14, 298), (65_537, 16, 290), (1_048_433, 16, 338)] {
+        let [t1, t2] = [0; 2].map(|_| random.modulus(p, n, false));
+        let job = card::card(p, n, 1, &[t1, t2].concat());
+        let answer = card::fieldcard(&job);
+        assert_eq!(answer.len(), longest);
+        for card in [job, pair_card(&answer).unwrap()] {
+            let (mut small, mut fill) = (card.clone(), card.clone());
+            small[2..5].copy_from_slice(&[0x0F, 0xFF, 0x10 | card[4] & 0x0F]); // 65,521
+            fill[5] |= 1;
+            let cards = [&card, &card[..5], &small, &fill];
+            assert_eq!(cards.map(|card| compare(card, tally)), [0, 11, 28, 13]);
+        }
     }
 }
 
@@ -108,12 +126,15 @@ pub fn run(rounds: u64, tally: &mut Tally) {
     compare(&[0x00, 0x03, 0x13, 0x49], tally); // 12
     compare(&[0x00, 0x03, 0x11, 0x4B], tally); // 4
     compare(&[0x00, 0x07, 0x21, 0xA0, 0x40, 0x01], tally); // 13
-    compare(&card::card(65_521, 16, 2, &[1; 64]), tally);
-    for length in [130, 131, 132, 133, 5000, 1 << 20] {
-        let mut long = card::card(65_521, 16, 2, &[0; 64]);
-        long.resize(length, 0);
-        compare(&long, tally);
+    for p in [65_521, 1_048_573] {
+        compare(&card::card(p, 16, 2, &[1; 64]), tally);
+        for length in [130, 131, 132, 133, 165, 166, 167, 168, 5000, 1 << 20] {
+            let mut long = card::card(p, 16, 2, &[0; 64]);
+            long.resize(length, 0);
+            compare(&long, tally);
+        }
     }
+    compare_wide(random, tally);
     for known in draw_all(random) {
         compare_known(&known, tally);
     }

@@ -6,13 +6,13 @@ use crate::library;
 use crate::random::Random;
 use yokebean::{power, product, substitute, Size};
 
-type Answer = (u32, Vec<u16>);
+type Answer = (u32, Vec<u32>);
 
-fn expected(number: u32, computed: impl FnOnce() -> Vec<u16>, lent: &[u16]) -> Answer {
+fn expected(number: u32, computed: impl FnOnce() -> Vec<u32>, lent: &[u32]) -> Answer {
     (number, if number == 0 { computed() } else { lent.to_vec() })
 }
 
-fn called(lent: &[u16], call: impl FnOnce(&mut [u16]) -> u32) -> Answer {
+fn called(lent: &[u32], call: impl FnOnce(&mut [u32]) -> u32) -> Answer {
     let mut list = lent.to_vec();
     let number = call(&mut list);
     (number, list)

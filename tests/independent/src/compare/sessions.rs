@@ -7,6 +7,7 @@ mod draw;
 mod forged;
 mod held;
 mod ledgers;
+mod lengths;
 mod limit;
 mod made;
 mod otherwise;
@@ -25,6 +26,7 @@ pub fn run(number: u64, tally: &mut Tally) {
     ledgers::run(tally);
     proposals::run(tally);
     tables::run(tally);
+    lengths::run(tally);
     limit::run(tally);
     otherwise::run(tally);
     let random = &mut Random::new(0x94d0_49bb_1331_11eb);

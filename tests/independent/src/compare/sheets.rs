@@ -11,23 +11,23 @@ use yokebean::{sheet, sheet_length, Size};
 /// The number on which both sides agree.
 fn compare_sheet(case: &Case, length: usize, tally: &mut Tally) -> u32 {
     let Case { p, n, t1, t2, s, r } = case;
-    let lists: [&[u16]; 4] = [t1, t2, s, r];
+    let lists: [&[u32]; 4] = [t1, t2, s, r];
     let lent = vec![b'#'; length];
     let want = document::sheet(*p, *n, lists, &lent);
     let mut out = lent;
     let number = library::number(sheet(Size { p: *p, n: *n }, t1, t2, s, r, &mut out));
     if number == 0 {
-        assert_eq!(document::read(*p, *n, &out), lists.map(<[u16]>::to_vec), "the sheet shows other lists");
+        assert_eq!(document::read(*p, *n, &out), lists.map(<[u32]>::to_vec), "the sheet shows other lists");
     }
     tally.compare("sheet", want.0, &(p, n, lists, length), &(number, out), &want);
     number
 }
 
 /// An irreducible modulus whose words lie around p/2 and at the ends.
-fn around_half(random: &mut Random, p: u32, n: u32) -> Vec<u16> {
+fn around_half(random: &mut Random, p: u32, n: u32) -> Vec<u32> {
     let words = [p / 2, p / 2 + 1, p / 2 + 2, (p / 2).saturating_sub(1), 0, 1, p - 1];
     loop {
-        let t: Vec<u16> = (0..n).map(|_| (words[random.below(7) as usize] % p) as u16).collect();
+        let t: Vec<u32> = (0..n).map(|_| words[random.below(7) as usize] % p).collect();
         if !has_divisor(p, &t) {
             return t;
         }
@@ -40,7 +40,7 @@ fn wrong_length(random: &mut Random, length: usize) -> usize {
 
 pub fn run(rounds: u64, tally: &mut Tally) {
     let random = &mut Random::new(0x9e37_79b9_7f4a_7c15);
-    for p in [2, 3, 65_521] {
+    for p in [2, 3, 65_521, 1_048_573] {
         for n in 1..=16 {
             for _ in 0..rounds / 100 {
                 let t1 = around_half(random, p, n);

@@ -17,12 +17,17 @@ pub fn degree(random: &mut Random, p: u32) -> u32 {
     degrees[random.below(degrees.len() as u64) as usize]
 }
 
-/// All p up to 200, the three largest, and three drawn.
+/// All p up to 200; the two largest below 65,536 and two drawn; and the largest of all and one drawn, where a card is wide.
 fn primes(random: &mut Random, n: u32) -> Vec<u32> {
-    let all: Vec<u32> = (2..=65_535).filter(|p| (p - 1) % n == 0 && is_prime(*p)).collect();
-    let drawn = [0; 3].map(|_| all[random.below(all.len() as u64) as usize]);
-    let small = all.iter().copied().filter(|&p| p <= 200);
-    small.chain(drawn).chain(all.iter().copied().rev().take(3)).collect()
+    let is_taken = |p: &u32| (p - 1) % n == 0 && is_prime(*p);
+    let drawn = [1 << 16, 1 << 16, 1 << 20].map(|limit| loop {
+        let p = 2 + random.below(limit - 2) as u32;
+        if is_taken(&p) {
+            break p;
+        }
+    });
+    let largest = (2..65_536).rev().filter(is_taken).take(2).chain((2..1_048_576).rev().find(is_taken));
+    (2..=200).filter(is_taken).chain(drawn).chain(largest).collect()
 }
 
 /// For every n primes p such that n divides p − 1.

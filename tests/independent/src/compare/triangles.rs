@@ -12,17 +12,17 @@ use crate::random::Random;
 struct Found {
     p: u32,
     n: u32,
-    moduli: [Vec<u16>; 3],
+    moduli: [Vec<u32>; 3],
     pairs: [[(Residue, Residue); 3]; 3],
     sessions: [[Calls; 3]; 3],
 }
 
-fn pair(p: u32, n: u32, t1: &[u16], t2: &[u16], tally: &mut Tally) -> (Residue, Residue) {
+fn pair(p: u32, n: u32, t1: &[u32], t2: &[u32], tally: &mut Tally) -> (Residue, Residue) {
     let (_, s, r) = compare_find(p, n, t1, t2, [0; 2].map(|_| vec![0; n as usize]), tally);
     (s, r)
 }
 
-fn session(p: u32, n: u32, t1: &[u16], t2: &[u16], tally: &mut Tally) -> Calls {
+fn session(p: u32, n: u32, t1: &[u32], t2: &[u32], tally: &mut Tally) -> Calls {
     let mut calls = Calls::new(tally);
     calls.load(p, n, t1, t2, tally);
     calls.find(tally);
@@ -30,7 +30,7 @@ fn session(p: u32, n: u32, t1: &[u16], t2: &[u16], tally: &mut Tally) -> Calls {
 }
 
 impl Found {
-    fn new(p: u32, n: u32, moduli: [Vec<u16>; 3], tally: &mut Tally) -> Self {
+    fn new(p: u32, n: u32, moduli: [Vec<u32>; 3], tally: &mut Tally) -> Self {
         let pairs = [0, 1, 2].map(|a| [0, 1, 2].map(|b| pair(p, n, &moduli[a], &moduli[b], tally)));
         let sessions = [0, 1, 2].map(|a| [0, 1, 2].map(|b| session(p, n, &moduli[a], &moduli[b], tally)));
         Found { p, n, moduli, pairs, sessions }
@@ -55,7 +55,7 @@ impl Found {
     fn compare_tables(&mut self, random: &mut Random, [a, b, c]: [usize; 3], tally: &mut Tally) {
         let table = random.uniform(self.p, 3 * self.n);
         let sessions = &mut self.sessions;
-        let mut convert = |forward: bool, [from, to]: [usize; 2], table: &[u16]| {
+        let mut convert = |forward: bool, [from, to]: [usize; 2], table: &[u32]| {
             sessions[from][to].convert(forward, table, vec![0; table.len()], tally).1
         };
         let (halfway, halfway_back) = (convert(true, [a, b], &table), convert(false, [b, c], &table));
@@ -66,7 +66,7 @@ impl Found {
     }
 }
 
-fn compare(random: &mut Random, p: u32, n: u32, moduli: [Vec<u16>; 3], tally: &mut Tally) {
+fn compare(random: &mut Random, p: u32, n: u32, moduli: [Vec<u32>; 3], tally: &mut Tally) {
     let mut found = Found::new(p, n, moduli, tally);
     for code in 0..27 {
         let [a, b, c] = [code / 9, code / 3 % 3, code % 3];

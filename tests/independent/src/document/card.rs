@@ -11,25 +11,45 @@ fn word_count(n: u32, kind: u32) -> usize {
     (if kind == 1 { 2 } else { 4 }) * n as usize
 }
 
-fn card_length(p: u32, n: u32, kind: u32) -> usize {
-    (24 + word_count(n, kind) * width(p) + 7) / 8
+/// "The writer uses it exactly when p is over 65,535."
+fn is_wide(p: u32) -> bool {
+    p > 65_535
 }
 
-fn bits(p: u32, n: u32, kind: u32, words: &[u16]) -> String {
+/// The bits before the coefficients: "A wide card starts with 16 zero bits, then p in 20 bits, n − 1 in 4, kind in 4 and 4 zero bits".
+fn header(wide: bool, p: u32, n: u32, kind: u32) -> String {
+    if wide {
+        format!("{}{p:020b}{:04b}{kind:04b}0000", "0".repeat(16), n - 1)
+    } else {
+        format!("{p:016b}{:04b}{kind:04b}", n - 1)
+    }
+}
+
+/// Where the coefficients begin.
+fn header_length(wide: bool) -> usize {
+    header(wide, 2, 1, 1).len()
+}
+
+pub fn card_length(p: u32, n: u32, kind: u32) -> usize {
+    (header_length(is_wide(p)) + word_count(n, kind) * width(p) + 7) / 8
+}
+
+/// A card in one of the two forms, whether p is for it or not.
+pub fn card_in_form(wide: bool, p: u32, n: u32, kind: u32, words: &[u32]) -> Vec<u8> {
     let w = width(p);
     let coefficients: String = words.iter().map(|word| format!("{word:0w$b}")).collect();
-    format!("{p:016b}{:04b}{kind:04b}{coefficients}", n - 1)
-}
-
-pub fn card(p: u32, n: u32, kind: u32, words: &[u16]) -> Vec<u8> {
-    let mut bits = bits(p, n, kind, words);
+    let mut bits = header(wide, p, n, kind) + &coefficients;
     while bits.len() % 8 != 0 {
         bits.push('0');
     }
     (0..bits.len() / 8).map(|k| u8::from_str_radix(&bits[8 * k..8 * k + 8], 2).unwrap()).collect()
 }
 
-pub fn write(p: u32, n: u32, kind: u32, words: &[u16], lent: &[u8]) -> (u32, Vec<u8>) {
+pub fn card(p: u32, n: u32, kind: u32, words: &[u32]) -> Vec<u8> {
+    card_in_form(is_wide(p), p, n, kind, words)
+}
+
+pub fn write(p: u32, n: u32, kind: u32, words: &[u32], lent: &[u8]) -> (u32, Vec<u8>) {
     let number = first(&[
         &|| model_number(p, n),
         &|| if kind == 1 || kind == 2 { 0 } else { 12 },
@@ -45,21 +65,26 @@ pub struct Card {
     pub p: u32,
     pub n: u32,
     pub kind: u32,
-    pub words: Vec<u16>,
+    pub words: Vec<u32>,
 }
 
+/// "A card under 6 bytes that begins with two zero bytes is 11, tested with the first 11"; "28 for a wide card with a p below 65,536, after 1".
 pub fn read(card: &[u8], lent: usize) -> Result<Card, u32> {
     if lent != 64 {
         return Err(3);
     }
-    if card.len() < 3 {
+    let wide = card.starts_with(&[0, 0]);
+    if card.len() < if wide { 6 } else { 3 } {
         return Err(11);
     }
     let bits: String = card.iter().map(|byte| format!("{byte:08b}")).collect();
     let field = |from: usize, count: usize| u32::from_str_radix(&bits[from..from + count], 2).unwrap();
-    let (p, n, kind) = (field(0, 16), field(16, 4) + 1, field(20, 4));
+    let (p, n, kind) = if wide { (field(16, 20), field(36, 4) + 1, field(40, 4)) } else { (field(0, 16), field(16, 4) + 1, field(20, 4)) };
     if !is_prime(p) {
         return Err(1);
+    }
+    if wide && p < 65_536 {
+        return Err(28);
     }
     if kind != 1 && kind != 2 {
         return Err(12);
@@ -67,18 +92,18 @@ pub fn read(card: &[u8], lent: usize) -> Result<Card, u32> {
     if card.len() != card_length(p, n, kind) {
         return Err(11);
     }
-    let (w, count) = (width(p), word_count(n, kind));
-    if bits[24 + count * w..].contains('1') {
+    let (start, w, count) = (header_length(wide), width(p), word_count(n, kind));
+    if bits[start + count * w..].contains('1') || wide && field(44, 4) != 0 {
         return Err(13);
     }
-    let words: Vec<u16> = (0..count).map(|k| field(24 + k * w, w) as u16).collect();
-    if words.iter().any(|&word| u32::from(word) >= p) {
+    let words: Vec<u32> = (0..count).map(|k| field(start + k * w, w)).collect();
+    if words.iter().any(|&word| word >= p) {
         return Err(4);
     }
     Ok(Card { p, n, kind, words })
 }
 
-fn job_answer(p: u32, n: u32, t1: &[u16], t2: &[u16]) -> Result<String, u32> {
+fn job_answer(p: u32, n: u32, t1: &[u32], t2: &[u32]) -> Result<String, u32> {
     match finder_number(p, n, t1, t2) {
         0 => {
             let pair = finder::pair(p, t1, t2);
@@ -90,7 +115,7 @@ fn job_answer(p: u32, n: u32, t1: &[u16], t2: &[u16]) -> Result<String, u32> {
 }
 
 /// Of cards over moduli with divisors "the program prints `RING` and a newline for one whose four congruences hold, and refuses with 6 or 7 otherwise".
-fn pair_answer(p: u32, t1: &[u16], t2: &[u16], s: &[u16], r: &[u16]) -> Result<String, u32> {
+fn pair_answer(p: u32, t1: &[u32], t2: &[u32], s: &[u32], r: &[u32]) -> Result<String, u32> {
     match (field_number(p, t1, t2), congruences(p, t1, t2, s, r)) {
         (0, true) => Ok("VALID".to_string()),
         (0, false) => Err(8),
@@ -102,7 +127,7 @@ fn pair_answer(p: u32, t1: &[u16], t2: &[u16], s: &[u16], r: &[u16]) -> Result<S
 /// What the program `fieldcard` prints for its standard input.
 pub fn fieldcard(input: &[u8]) -> String {
     let answer = read(input, 64).and_then(|Card { p, n, words, .. }| {
-        let lists: Vec<&[u16]> = words.chunks(n as usize).collect();
+        let lists: Vec<&[u32]> = words.chunks(n as usize).collect();
         match lists[..] {
             [t1, t2] => job_answer(p, n, t1, t2),
             [t1, t2, s, r] => pair_answer(p, t1, t2, s, r),

@@ -8,7 +8,7 @@ use super::polynomial::{all_lists, common_divisor, monic, remainder};
 const TRIALS: u64 = 1_000;
 
 /// Whether the polynomial with the lower words t has a monic divisor of degree 1 to n − 1.
-pub fn has_divisor(p: u32, t: &[u16]) -> bool {
+pub fn has_divisor(p: u32, t: &[u32]) -> bool {
     let trials = u64::from(p).checked_pow(t.len() as u32 / 2);
     if trials.map_or(false, |trials| trials <= TRIALS) {
         by_trial(p, t)
@@ -18,14 +18,14 @@ pub fn has_divisor(p: u32, t: &[u16]) -> bool {
 }
 
 /// Some monic polynomial of degree 1 to n/2 divides: of two factors, one has at most half the degree.
-pub fn by_trial(p: u32, t: &[u16]) -> bool {
+pub fn by_trial(p: u32, t: &[u32]) -> bool {
     let f = monic(t);
-    let divides = |d: Vec<u16>| remainder(p.into(), &f, &monic(&d)).is_empty();
+    let divides = |d: Vec<u32>| remainder(p.into(), &f, &monic(&d)).is_empty();
     (1..=t.len() as u32 / 2).any(|degree| all_lists(p, degree).any(divides))
 }
 
 /// For some d up to n/2 there is a common divisor with X^(p^d) − X, the product of all irreducible monic polynomials whose degree divides d.
-pub fn by_common_divisors(p: u32, t: &[u16]) -> bool {
+pub fn by_common_divisors(p: u32, t: &[u32]) -> bool {
     let (model, f) = (Model::new(p, t), monic(t));
     let minus_x = model.scaled(model.p - 1, &model.x());
     let mut conjugate = model.x();

@@ -2,22 +2,24 @@
 //! order n, the resolvent Σ ζ^(−i) σ^i(θ) is an eigenvector of σ for ζ or 0; and P(α) = X means P(ζ^k·α) = σ^k(X), so P's coefficients are sums over
 //! the conjugates of X.
 
+use super::kept::Kept;
 use super::model::{Model, Residue};
 use super::polynomial::power;
 
 /// Whether z^n = 1 and no lower power is 1.
 pub fn has_order(p: u64, n: u64, z: u64) -> bool {
-    let (mut k, mut value) = (1, z);
-    while value != 1 && k <= n {
-        value = value * z % p;
-        k += 1;
-    }
-    k == n
+    power(p, z, n) == 1 && (1..n).all(|k| power(p, z, k) != 1)
+}
+
+thread_local! {
+    /// ζ of sizes met before.
+    static ZETAS: Kept<(u64, u64), u64> = Kept::new();
 }
 
 /// The smallest number from 1 to p − 1 of order n.
 pub fn zeta(p: u64, n: u64) -> u64 {
-    (1..p).find(|&z| has_order(p, n, z)).unwrap()
+    let searched = || (1..p).find(|&z| has_order(p, n, z)).unwrap();
+    ZETAS.with(|kept| kept.get((p, n), searched))
 }
 
 /// ζ, and the smallest a from 1 to p − 1 with a^((p−1)/n) = ζ.
@@ -46,7 +48,7 @@ pub fn eigenvector(model: &Model, zeta: u64) -> Residue {
 }
 
 /// α^n, which σ fixes: a constant.
-pub fn nth_power(model: &Model, alpha: &[u16]) -> u64 {
+pub fn nth_power(model: &Model, alpha: &[u32]) -> u64 {
     model.coerced(&model.power(alpha, model.modulus.len() as u64))
 }
 
@@ -59,13 +61,13 @@ fn alpha(model: &Model, zeta: u64, a: u64) -> Residue {
 }
 
 /// The polynomial P of degree below n with P(α) = X: its i-th coefficient is the i-th resolvent of X, divided by n·α^i.
-pub fn express(model: &Model, zeta: u64, alpha: &[u16]) -> Residue {
+pub fn express(model: &Model, zeta: u64, alpha: &[u32]) -> Residue {
     let n = model.modulus.len() as u64;
     let conjugates = model.conjugates(model.x());
     let denominator = power(model.p, n * nth_power(model, alpha) % model.p, model.p - 2);
     let coefficient = |i: u64| {
         let quotient = model.product(&resolvent(model, zeta, i, &conjugates), &model.power(alpha, n - i));
-        model.coerced(&model.scaled(denominator, &quotient)) as u16
+        model.coerced(&model.scaled(denominator, &quotient)) as u32
     };
     (0..n).map(coefficient).collect()
 }

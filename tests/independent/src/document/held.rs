@@ -5,7 +5,7 @@ use super::{check, finder, finder_number, first, list_number, model::Model, mode
 #[derive(Clone, Debug, PartialEq)]
 pub enum Held {
     Empty,
-    Loaded { p: u32, n: u32, t1: Vec<u16>, t2: Vec<u16> },
+    Loaded { p: u32, n: u32, t1: Vec<u32>, t2: Vec<u32> },
     Paired(Pair),
 }
 
@@ -13,10 +13,10 @@ pub enum Held {
 pub struct Pair {
     pub p: u32,
     pub n: u32,
-    pub t1: Vec<u16>,
-    pub t2: Vec<u16>,
-    pub s: Vec<u16>,
-    pub r: Vec<u16>,
+    pub t1: Vec<u32>,
+    pub t2: Vec<u32>,
+    pub s: Vec<u32>,
+    pub r: Vec<u32>,
 }
 
 /// A number becomes a refusal, unless it is 0.
@@ -29,7 +29,7 @@ pub fn accepted(number: u32) -> Result<(), u32> {
 }
 
 impl Held {
-    pub fn load(&self, p: u32, n: u32, t1: &[u16], t2: &[u16]) -> Result<Held, u32> {
+    pub fn load(&self, p: u32, n: u32, t1: &[u32], t2: &[u32]) -> Result<Held, u32> {
         if *self != Held::Empty {
             return Err(23);
         }
@@ -38,7 +38,7 @@ impl Held {
     }
 
     /// 21 or 24, unless it is loaded and the call may give it a pair.
-    fn loaded(&self) -> Result<(u32, u32, Vec<u16>, Vec<u16>), u32> {
+    fn loaded(&self) -> Result<(u32, u32, Vec<u32>, Vec<u32>), u32> {
         match self.clone() {
             Held::Empty => Err(21),
             Held::Paired(_) => Err(24),
@@ -46,7 +46,7 @@ impl Held {
         }
     }
 
-    pub fn propose(&self, s: &[u16], r: &[u16]) -> Result<Held, u32> {
+    pub fn propose(&self, s: &[u32], r: &[u32]) -> Result<Held, u32> {
         let (p, n, t1, t2) = self.loaded()?;
         accepted(check(p, n, &t1, &t2, s, r))?;
         Ok(Held::Paired(Pair { p, n, t1, t2, s: s.to_vec(), r: r.to_vec() }))
@@ -70,17 +70,17 @@ impl Held {
 }
 
 impl Pair {
-    pub fn residues(&self, table: &[u16]) -> usize {
+    pub fn residues(&self, table: &[u32]) -> usize {
         table.len() / self.n as usize
     }
 
     /// Refusal 9, 10 or 4, or 0: of a table to convert, where there is room for so many residues.
-    pub fn table_number(&self, table: &[u16], lent: usize, room: u32) -> u32 {
-        if table.len() > 32_768 || table.len() % self.n as usize != 0 || self.residues(table) > room as usize {
+    pub fn table_number(&self, table: &[u32], lent: usize, room: u32) -> u32 {
+        if table.len() > 16_384 || table.len() % self.n as usize != 0 || self.residues(table) > room as usize {
             9
         } else if lent != table.len() {
             10
-        } else if table.iter().any(|&word| u32::from(word) >= self.p) {
+        } else if table.iter().any(|&word| word >= self.p) {
             4
         } else {
             0
@@ -88,7 +88,7 @@ impl Pair {
     }
 
     /// "The k-th group of n words in the output is the image of the k-th group of the input."
-    pub fn images(&self, forward: bool, table: &[u16]) -> Vec<u16> {
+    pub fn images(&self, forward: bool, table: &[u32]) -> Vec<u32> {
         let (modulus, image) = if forward { (&self.t2, &self.s) } else { (&self.t1, &self.r) };
         let model = Model::new(self.p, modulus);
         table.chunks(self.n as usize).flat_map(|group| model.substitute(image, group)).collect()

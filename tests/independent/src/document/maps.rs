@@ -8,20 +8,20 @@ use super::{first, list_number, model_number, pair_number};
 pub const TRIALS: u64 = 4_096;
 
 /// Of all residues those S' with T1(S') = 0 mod T2. `all_lists` counts up with the highest power in front, so they come in ascending order.
-pub fn by_trial(p: u32, t1: &[u16], t2: &[u16]) -> Vec<Residue> {
+pub fn by_trial(p: u32, t1: &[u32], t2: &[u32]) -> Vec<Residue> {
     let model = Model::new(p, t2);
     let zero = model.constant(0);
     all_lists(p, t2.len() as u32).filter(|s| model.modulus_at(t1, s) == zero).collect()
 }
 
 /// S, S^p, S^(p²), …, sorted: "Compare coefficients from the highest power down".
-pub fn by_conjugates(p: u32, t2: &[u16], s: &[u16]) -> Vec<Residue> {
+pub fn by_conjugates(p: u32, t2: &[u32], s: &[u32]) -> Vec<Residue> {
     let mut list = Model::new(p, t2).conjugates(s.to_vec());
     list.sort_by(|u, v| u.iter().rev().cmp(v.iter().rev()));
     list
 }
 
-fn all_maps(p: u32, t1: &[u16], t2: &[u16], s: &[u16]) -> Vec<Residue> {
+fn all_maps(p: u32, t1: &[u32], t2: &[u32], s: &[u32]) -> Vec<Residue> {
     let residues = u64::from(p).checked_pow(t2.len() as u32);
     if residues.map_or(false, |residues| residues <= TRIALS) {
         by_trial(p, t1, t2)
@@ -31,7 +31,7 @@ fn all_maps(p: u32, t1: &[u16], t2: &[u16], s: &[u16]) -> Vec<Residue> {
 }
 
 /// The number, and what the output list holds after the call.
-pub fn maps(p: u32, n: u32, lists: [&[u16]; 4], out: &[u16]) -> (u32, Vec<u16>) {
+pub fn maps(p: u32, n: u32, lists: [&[u32]; 4], out: &[u32]) -> (u32, Vec<u32>) {
     let [t1, t2, s, r] = lists;
     let wrong_length = || u32::from(out.len() as u64 != u64::from(n) * u64::from(n)) * 3;
     match first(&[&|| model_number(p, n), &wrong_length, &|| list_number(p, n, &lists, &[]), &|| pair_number(p, t1, t2, s, r)]) {
@@ -41,7 +41,7 @@ pub fn maps(p: u32, n: u32, lists: [&[u16]; 4], out: &[u16]) -> (u32, Vec<u16>) 
 }
 
 /// The n accepted pairs over two moduli, from one of them: to S^(p^k) belongs R^(p^(n−k)).
-pub fn pairs(p: u32, t1: &[u16], t2: &[u16], s: &[u16], r: &[u16]) -> Vec<(Residue, Residue)> {
+pub fn pairs(p: u32, t1: &[u32], t2: &[u32], s: &[u32], r: &[u32]) -> Vec<(Residue, Residue)> {
     let mut back = Model::new(p, t1).conjugates(r.to_vec());
     back[1..].reverse();
     Model::new(p, t2).conjugates(s.to_vec()).into_iter().zip(back).collect()

@@ -4,13 +4,13 @@
 /// A model: p and the lower words of a monic modulus.
 pub struct Model<'a> {
     pub p: u64,
-    pub modulus: &'a [u16],
+    pub modulus: &'a [u32],
 }
 
-pub type Residue = Vec<u16>;
+pub type Residue = Vec<u32>;
 
 impl<'a> Model<'a> {
-    pub fn new(p: u32, modulus: &'a [u16]) -> Self {
+    pub fn new(p: u32, modulus: &'a [u32]) -> Self {
         Model { p: p.into(), modulus }
     }
 
@@ -24,10 +24,10 @@ impl<'a> Model<'a> {
             }
         }
         f.resize(n, 0);
-        f.iter().map(|c| (c % self.p) as u16).collect()
+        f.iter().map(|c| (c % self.p) as u32).collect()
     }
 
-    pub fn product(&self, u: &[u16], v: &[u16]) -> Residue {
+    pub fn product(&self, u: &[u32], v: &[u32]) -> Residue {
         let mut f = vec![0; u.len() + v.len()];
         for (i, &a) in u.iter().enumerate() {
             for (j, &b) in v.iter().enumerate() {
@@ -46,15 +46,15 @@ impl<'a> Model<'a> {
         self.remainder(vec![0, 1])
     }
 
-    pub fn sum(&self, u: &[u16], v: &[u16]) -> Residue {
-        u.iter().zip(v).map(|(&a, &b)| ((u64::from(a) + u64::from(b)) % self.p) as u16).collect()
+    pub fn sum(&self, u: &[u32], v: &[u32]) -> Residue {
+        u.iter().zip(v).map(|(&a, &b)| ((u64::from(a) + u64::from(b)) % self.p) as u32).collect()
     }
 
-    pub fn scaled(&self, c: u64, u: &[u16]) -> Residue {
-        u.iter().map(|&a| (c * u64::from(a) % self.p) as u16).collect()
+    pub fn scaled(&self, c: u64, u: &[u32]) -> Residue {
+        u.iter().map(|&a| (c * u64::from(a) % self.p) as u32).collect()
     }
 
-    pub fn power(&self, u: &[u16], k: u64) -> Residue {
+    pub fn power(&self, u: &[u32], k: u64) -> Residue {
         (0..64 - k.leading_zeros()).rev().fold(self.constant(1), |value, bit| {
             let square = self.product(&value, &value);
             if k >> bit & 1 == 1 {
@@ -75,13 +75,13 @@ impl<'a> Model<'a> {
     }
 
     /// The word of a residue that is a constant.
-    pub fn coerced(&self, u: &[u16]) -> u64 {
+    pub fn coerced(&self, u: &[u32]) -> u64 {
         assert!(u[1..].iter().all(|&word| word == 0));
         u64::from(u[0])
     }
 
     /// f(S) for a polynomial f of any degree: the sum of its terms.
-    pub fn substitute(&self, s: &[u16], f: &[u16]) -> Residue {
+    pub fn substitute(&self, s: &[u32], f: &[u32]) -> Residue {
         let mut power = self.constant(1);
         let mut value = self.constant(0);
         for &c in f {
@@ -92,8 +92,8 @@ impl<'a> Model<'a> {
     }
 
     /// M(S) for the monic polynomial M with the lower words m.
-    pub fn modulus_at(&self, m: &[u16], s: &[u16]) -> Residue {
-        let monic: Vec<u16> = m.iter().copied().chain([1]).collect();
+    pub fn modulus_at(&self, m: &[u32], s: &[u32]) -> Residue {
+        let monic: Vec<u32> = m.iter().copied().chain([1]).collect();
         self.substitute(s, &monic)
     }
 }

@@ -55,16 +55,16 @@ pub fn product(p: u64, f: &[u64], g: &[u64]) -> Polynomial {
 }
 
 /// The monic polynomial with the lower words t.
-pub fn monic(t: &[u16]) -> Polynomial {
+pub fn monic(t: &[u32]) -> Polynomial {
     t.iter().map(|&c| c.into()).chain([1]).collect()
 }
 
 /// The lower words of a monic polynomial.
-pub fn lower_words(f: &[u64]) -> Vec<u16> {
-    f[..f.len() - 1].iter().map(|&c| c as u16).collect()
+pub fn lower_words(f: &[u64]) -> Vec<u32> {
+    f[..f.len() - 1].iter().map(|&c| c as u32).collect()
 }
 
 /// All lists of n words below p.
-pub fn all_lists(p: u32, n: u32) -> impl Iterator<Item = Vec<u16>> {
-    (0..p.pow(n)).map(move |code| (0..n).map(|k| (code / p.pow(k) % p) as u16).collect())
+pub fn all_lists(p: u32, n: u32) -> impl Iterator<Item = Vec<u32>> {
+    (0..p.pow(n)).map(move |code| (0..n).map(|k| code / p.pow(k) % p).collect())
 }

@@ -23,7 +23,7 @@ pub struct OpenTable {
 pub type Step = Result<Session, u32>;
 
 /// The same, with what a conversion writes.
-pub type Conversion = Result<(Vec<u16>, Session), u32>;
+pub type Conversion = Result<(Vec<u32>, Session), u32>;
 
 impl Session {
     pub fn new() -> Self {
@@ -45,11 +45,11 @@ impl Session {
         next
     }
 
-    pub fn load(&self, p: u32, n: u32, t1: &[u16], t2: &[u16]) -> Step {
+    pub fn load(&self, p: u32, n: u32, t1: &[u32], t2: &[u32]) -> Step {
         self.acted_on().load(p, n, t1, t2).map(|held| self.holding(held))
     }
 
-    pub fn propose(&self, s: &[u16], r: &[u16]) -> Step {
+    pub fn propose(&self, s: &[u32], r: &[u32]) -> Step {
         self.acted_on().propose(s, r).map(|held| self.holding(held))
     }
 
@@ -72,7 +72,7 @@ impl Session {
     }
 
     /// "Every conversion that succeeds adds one record."
-    pub fn convert(&self, forward: bool, table: &[u16], lent: usize) -> Conversion {
+    pub fn convert(&self, forward: bool, table: &[u32], lent: usize) -> Conversion {
         let pair = self.held.pair()?;
         self.unless_open()?;
         accepted(pair.table_number(table, lent, u32::MAX))?;
@@ -89,7 +89,7 @@ impl Session {
     }
 
     /// "A feed that would bring its table above 4,294,967,295 residues is a 9."
-    pub fn feed(&self, part: &[u16], lent: usize) -> Conversion {
+    pub fn feed(&self, part: &[u32], lent: usize) -> Conversion {
         let table = self.open.as_ref().ok_or(26u32)?;
         let pair = self.held.pair()?;
         accepted(pair.table_number(part, lent, u32::MAX - table.fed))?;

@@ -11,13 +11,13 @@ fn trace(model: &Model, u: Residue) -> u64 {
 }
 
 /// 1/u, which is u^(p^n − 2).
-fn inverse(model: &Model, u: &[u16]) -> Residue {
+fn inverse(model: &Model, u: &[u32]) -> Residue {
     model.power(u, model.p.pow(model.modulus.len() as u32) - 2)
 }
 
 /// The v with v^p = v + a and constant coefficient 0. With b_i = a + a^p + …, i terms, and θ a power of X whose trace is not 0, the sum of the
 /// b_i·θ^(p^i) is w with w^p = w − a·Tr θ, because b_n = Tr a = 0. Solutions differ by constants.
-pub fn solution(model: &Model, a: &[u16]) -> Residue {
+pub fn solution(model: &Model, a: &[u32]) -> Residue {
     let thetas = (0..model.modulus.len() as u64).map(|k| model.power(&model.x(), k));
     let (theta, trace) = thetas.map(|theta| (theta.clone(), trace(model, theta))).find(|(_, trace)| *trace != 0).unwrap();
     let (mut b, mut w) = (model.constant(0), model.constant(0));
@@ -31,7 +31,7 @@ pub fn solution(model: &Model, a: &[u16]) -> Residue {
 }
 
 /// The same by trying all residues; there is only one.
-pub fn solution_by_trial(model: &Model, a: &[u16]) -> Residue {
+pub fn solution_by_trial(model: &Model, a: &[u32]) -> Residue {
     let residues = all_lists(model.p as u32, model.modulus.len() as u32).filter(|v| v[0] == 0);
     let solutions: Vec<Residue> = residues.filter(|v| model.power(v, model.p) == model.sum(v, a)).collect();
     assert_eq!(solutions.len(), 1);
@@ -39,7 +39,7 @@ pub fn solution_by_trial(model: &Model, a: &[u16]) -> Residue {
 }
 
 /// a and α after each round: both begin as 1; a becomes a·α^(p−1), then α the solution for it.
-pub fn rounds(model: &Model, solution: fn(&Model, &[u16]) -> Residue) -> Vec<(Residue, Residue)> {
+pub fn rounds(model: &Model, solution: fn(&Model, &[u32]) -> Residue) -> Vec<(Residue, Residue)> {
     let (mut a, mut alpha) = (model.constant(1), model.constant(1));
     let degrees = std::iter::successors(Some(model.p), |degree| Some(degree * model.p));
     let round = |_| {
@@ -52,7 +52,7 @@ pub fn rounds(model: &Model, solution: fn(&Model, &[u16]) -> Residue) -> Vec<(Re
 
 /// The polynomial P of degree below n with P(α) = X: the sum, over the conjugates, of X·Q/Q(α), where Q is the product of Y − β over all other
 /// conjugates β of α.
-pub fn express(model: &Model, alpha: &[u16]) -> Residue {
+pub fn express(model: &Model, alpha: &[u32]) -> Residue {
     let mut q = vec![model.constant(1)];
     for beta in &model.conjugates(alpha.to_vec())[1..] {
         let negative = model.scaled(model.p - 1, beta);
@@ -64,7 +64,7 @@ pub fn express(model: &Model, alpha: &[u16]) -> Residue {
     }
     let at_alpha = q.iter().rev().fold(model.constant(0), |value, c| model.sum(&model.product(&value, alpha), c));
     let factor = model.product(&model.x(), &inverse(model, &at_alpha));
-    q.iter().map(|c| trace(model, model.product(c, &factor)) as u16).collect()
+    q.iter().map(|c| trace(model, model.product(c, &factor)) as u32).collect()
 }
 
 /// α and P.

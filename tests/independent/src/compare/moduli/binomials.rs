@@ -22,12 +22,12 @@ fn is_irreducible(p: u32, n: u32, a: u32) -> bool {
 
 fn compare_binomial(p: u32, n: u32, a: u32, tally: &mut Tally) {
     let mut t = vec![0; n as usize];
-    t[0] = ((p - a) % p) as u16;
+    t[0] = (p - a) % p;
     compare_known(p, &t, if is_irreducible(p, n, a) { 0 } else { 6 }, tally);
 }
 
 pub fn run(random: &mut Random, tally: &mut Tally) {
-    for p in [2, 3, 5, 7, 13, 17, 23, 31, 97, 251, 257, 1009, 65_519, 65_521] {
+    for p in [2, 3, 5, 7, 13, 17, 23, 31, 97, 251, 257, 1009, 65_519, 65_521, 65_537, 786_433, 1_048_573] {
         for n in 1..=16 {
             for a in [0, 1, p - 1] {
                 compare_binomial(p, n, a, tally);

@@ -20,12 +20,12 @@ impl Factors {
         &self.of_degree[degree - 1]
     }
 
-    fn multiplied<'a>(&self, factors: impl Iterator<Item = &'a Polynomial>) -> Vec<u16> {
+    fn multiplied<'a>(&self, factors: impl Iterator<Item = &'a Polynomial>) -> Vec<u32> {
         lower_words(&factors.fold(vec![1], |value, f| product(self.p.into(), &value, f)))
     }
 
     /// A product with these degrees that takes the factors of one degree in turn.
-    fn distinct(&self, degrees: &[usize]) -> Vec<u16> {
+    fn distinct(&self, degrees: &[usize]) -> Vec<u32> {
         let turn = |k: usize| degrees[..k].iter().filter(|&&degree| degree == degrees[k]).count();
         self.multiplied((0..degrees.len()).map(|k| {
             let list = self.list(degrees[k]);
@@ -34,7 +34,7 @@ impl Factors {
     }
 
     /// A product with these degrees, each factor drawn for itself.
-    fn drawn(&self, random: &mut Random, degrees: &[usize]) -> Vec<u16> {
+    fn drawn(&self, random: &mut Random, degrees: &[usize]) -> Vec<u32> {
         self.multiplied(degrees.iter().map(|&degree| {
             let list = self.list(degree);
             &list[random.below(list.len() as u64) as usize]
@@ -82,7 +82,7 @@ fn compare_powers(factors: &Factors, n: usize, tally: &mut Tally) {
 }
 
 pub fn run(random: &mut Random, tally: &mut Tally) {
-    for p in [2, 3, 5, 251, 65_521] {
+    for p in [2, 3, 5, 251, 65_521, 1_048_573] {
         let factors = Factors::new(random, p);
         for f in factors.of_degree.iter().flatten() {
             compare_known(p, &lower_words(f), 0, tally);

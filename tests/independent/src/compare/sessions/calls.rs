@@ -70,10 +70,10 @@ impl Calls {
         call: &'static str,
         want: Conversion,
         made: Made,
-        (table, lent): (&[u16], Vec<u16>),
-        got: (Step, Vec<u16>),
+        (table, lent): (&[u32], Vec<u32>),
+        got: (Step, Vec<u32>),
         tally: &mut Tally,
-    ) -> (u32, Vec<u16>) {
+    ) -> (u32, Vec<u32>) {
         let (step, image) = want.map_or_else(|number| (Err(number), lent), |(image, next)| (Ok(next), image));
         let want = (self.wanted(step, made), image);
         tally.compare(call, want.0.number, &(self.current, table), &got, &want);
@@ -81,13 +81,13 @@ impl Calls {
         (got.0.number, got.1)
     }
 
-    pub fn load(&mut self, p: u32, n: u32, t1: &[u16], t2: &[u16], tally: &mut Tally) -> u32 {
+    pub fn load(&mut self, p: u32, n: u32, t1: &[u32], t2: &[u32], tally: &mut Tally) -> u32 {
         let call = if self.is_open() { "waiting_load" } else { "session_load" };
         let want = counts_as(&self.current).load(p, n, t1, t2);
         self.step(call, want, made::by_holding, library::load(self.current, p, n, t1, t2), tally)
     }
 
-    pub fn propose(&mut self, s: &[u16], r: &[u16], tally: &mut Tally) -> u32 {
+    pub fn propose(&mut self, s: &[u32], r: &[u32], tally: &mut Tally) -> u32 {
         let call = if self.is_open() { "waiting_propose" } else { "session_propose" };
         let want = counts_as(&self.current).propose(s, r);
         self.step(call, want, made::by_holding, library::propose(self.current, s, r), tally)
@@ -105,7 +105,7 @@ impl Calls {
     }
 
     /// The number, and what the output list holds after the call.
-    pub fn convert(&mut self, forward: bool, table: &[u16], lent: Vec<u16>, tally: &mut Tally) -> (u32, Vec<u16>) {
+    pub fn convert(&mut self, forward: bool, table: &[u32], lent: Vec<u32>, tally: &mut Tally) -> (u32, Vec<u32>) {
         let (taken, mut output) = (self.current, lent.clone());
         let want = counts_as(&taken).convert(forward, table, lent.len());
         let got = library::convert(taken, forward, table, &mut output);
@@ -128,7 +128,7 @@ impl Calls {
     }
 
     /// The same, and what it wrote is compared with the pair that was current at begin.
-    pub fn feed(&mut self, part: &[u16], lent: Vec<u16>, tally: &mut Tally) -> (u32, Vec<u16>) {
+    pub fn feed(&mut self, part: &[u32], lent: Vec<u32>, tally: &mut Tally) -> (u32, Vec<u32>) {
         let (taken, mut output) = (self.current, lent.clone());
         let want = counts_as(&taken).feed(part, lent.len());
         let got = library::feed(taken, part, &mut output);

@@ -8,33 +8,33 @@ use crate::document::{self, finder, is_prime};
 use crate::random::Random;
 
 /// A table of groups of n words; of a wrong length or with a word of p or more once in a while.
-fn table(random: &mut Random, p: u32, n: u32) -> Vec<u16> {
-    let groups = if random.once_in(500) { 32_768 / u64::from(n) } else { random.below(12) };
+fn table(random: &mut Random, p: u32, n: u32) -> Vec<u32> {
+    let groups = if random.once_in(500) { 16_384 / u64::from(n) } else { random.below(12) };
     let mut length = (groups * u64::from(n)) as usize;
     if random.once_in(10) {
         length += 1 + random.below(2) as usize;
     }
     if random.once_in(2000) {
-        length = (32_768 / n as usize + 1) * n as usize;
+        length = (16_384 / n as usize + 1) * n as usize;
     }
-    let mut table: Vec<u16> = (0..length).map(|_| random.below(p.into()) as u16).collect();
+    let mut table = random.uniform(p, length as u32);
     if length > 0 && random.once_in(12) {
         let place = random.below(length as u64) as usize;
-        table[place] = p.min(65_535) as u16;
+        table[place] = random.large_word(p);
     }
     table
 }
 
 /// A list to lend for the output, now and then too long.
-fn output(random: &mut Random, input: &[u16]) -> Vec<u16> {
-    let mut output: Vec<u16> = input.iter().map(|_| random.next() as u16).collect();
+fn output(random: &mut Random, input: &[u32]) -> Vec<u32> {
+    let mut output: Vec<u32> = input.iter().map(|_| random.next() as u32).collect();
     if random.once_in(12) {
         output.push(1);
     }
     output
 }
 
-fn models(random: &mut Random) -> (u32, u32, Vec<u16>, Vec<u16>) {
+fn models(random: &mut Random) -> (u32, u32, Vec<u32>, Vec<u32>) {
     let p = random.prime();
     let n = if random.once_in(4) { 1 + random.below(16) as u32 } else { sizes::degree(random, p) };
     let modulus = |random: &mut Random| {

@@ -4,6 +4,15 @@ use super::value::{current, with_current};
 use crate::library::{Held, Record, Session as Value};
 use crate::random::Random;
 
+/// Below p, or one that 4 is for.
+fn word(random: &mut Random, p: u32) -> u32 {
+    if random.once_in(2) {
+        random.below(p.max(1).into()) as u32
+    } else {
+        random.large_word(p)
+    }
+}
+
 /// Of what the current or the waiting session holds.
 fn held(random: &mut Random, mut value: Held) -> Held {
     let place = random.below(16) as usize;
@@ -11,12 +20,12 @@ fn held(random: &mut Random, mut value: Held) -> Held {
         0 => value.state = [0, 1, 2, 3, u32::MAX][random.below(5) as usize],
         1 => value.p = random.modulus_number(),
         2 => value.n = random.degree(),
-        3 => value.t1[place] = random.next() as u16,
-        4 => value.t2[place] = random.next() as u16,
-        5 => value.s[place] = random.next() as u16,
-        6 => value.r[place] = random.next() as u16,
+        3 => value.t1[place] = word(random, value.p),
+        4 => value.t2[place] = word(random, value.p),
+        5 => value.s[place] = word(random, value.p),
+        6 => value.r[place] = word(random, value.p),
         // of an empty session nothing else is looked at
-        7 => value = Held { state: 0, p: random.next() as u32, n: random.next() as u32, t1: [u16::MAX; 16], ..value },
+        7 => value = Held { state: 0, p: random.next() as u32, n: random.next() as u32, t1: [u32::MAX; 16], ..value },
         _ => value.state = 1 + value.state % 2,
     }
     value

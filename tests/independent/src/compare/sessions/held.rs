@@ -6,7 +6,7 @@ use crate::library::Held as Value;
 
 pub const EMPTY: Value = Value { state: 0, p: 0, n: 0, t1: [0; 16], t2: [0; 16], s: [0; 16], r: [0; 16] };
 
-fn padded(words: &[u16]) -> [u16; 16] {
+fn padded(words: &[u32]) -> [u32; 16] {
     let mut array = [0; 16];
     array[..words.len()].copy_from_slice(words);
     array
@@ -32,9 +32,9 @@ pub fn held(value: &Value) -> Option<Held> {
     if state > 2 || !is_prime(p) || !(1..=16).contains(&n) {
         return None;
     }
-    let part = |array: &[u16; 16]| array[..n as usize].to_vec();
+    let part = |array: &[u32; 16]| array[..n as usize].to_vec();
     let [t1, t2, s, r] = [&value.t1, &value.t2, &value.s, &value.r].map(part);
-    let below = |list: &Vec<u16>| list.iter().all(|&word| u32::from(word) < p);
+    let below = |list: &Vec<u32>| list.iter().all(|&word| word < p);
     match state {
         1 if below(&t1) && below(&t2) => Some(Held::Loaded { p, n, t1, t2 }),
         2 if below(&t1) && below(&t2) && below(&s) && below(&r) => Some(Held::Paired(Pair { p, n, t1, t2, s, r })),

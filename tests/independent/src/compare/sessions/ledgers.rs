@@ -32,7 +32,7 @@ fn full(tally: &mut Tally) {
     }
     assert_eq!(calls.current.records, 512);
     let full = calls.current;
-    let refused: [(&[u16], usize, u32); 5] = [(&[], 0, 25), (&[1, 1], 2, 25), (&[3, 1], 2, 4), (&[1, 1], 3, 10), (&[1], 1, 9)];
+    let refused: [(&[u32], usize, u32); 5] = [(&[], 0, 25), (&[1, 1], 2, 25), (&[3, 1], 2, 4), (&[1, 1], 3, 10), (&[1], 1, 9)];
     for (table, lent, number) in refused {
         assert_eq!(library::convert(full, true, table, &mut vec![0; lent]), Step { number, session: full });
         calls.convert(true, table, vec![0; lent], tally);

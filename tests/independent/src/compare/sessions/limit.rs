@@ -16,7 +16,7 @@ fn almost(forward: bool, tally: &mut Tally) -> Calls {
 }
 
 /// Each part, the length of the list lent for it, and the number: the limit comes before what 10 and 4 are for.
-const PARTS: [(&[u16], usize, u32); 9] = [
+const PARTS: [(&[u32], usize, u32); 9] = [
     (&[], 0, 0),
     (&[1, 1], 2, 0),
     (&[1; 6], 6, 0),

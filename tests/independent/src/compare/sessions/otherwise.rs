@@ -20,7 +20,7 @@ fn open(tally: &mut Tally) -> Value {
 }
 
 /// What waits, with one word changed at a place.
-fn changed(waiting: Held, list: usize, place: usize, word: u16) -> Held {
+fn changed(waiting: Held, list: usize, place: usize, word: u32) -> Held {
     let mut waiting = waiting;
     [&mut waiting.t1, &mut waiting.t2, &mut waiting.s, &mut waiting.r][list][place] = word;
     waiting
@@ -43,14 +43,15 @@ fn counting_as_new(value: Value) -> Vec<Value> {
         Held { state: u32::MAX, ..waiting },
         Held { p: 0, ..waiting },
         Held { p: 9, ..waiting },
-        Held { p: 65_537, ..waiting },
+        Held { p: 65_535, ..waiting },
+        Held { p: 1_048_583, ..waiting },
         Held { n: 0, ..waiting },
         Held { n: 17, ..waiting },
         Held { state: 1, p: 4, ..waiting },
         Held { state: 1, n: 17, ..waiting },
     ];
     bad.extend((0..4).map(|list| changed(waiting, list, 2, 7)));
-    bad.extend((0..2).map(|list| changed(Held { state: 1, ..waiting }, list, 0, u16::MAX)));
+    bad.extend((0..2).map(|list| changed(Held { state: 1, ..waiting }, list, 0, u32::MAX)));
     values.extend(bad.into_iter().map(|waiting| Value { waiting, ..value }));
     values
 }
@@ -77,7 +78,7 @@ fn counts_as_new(value: Value, tally: &mut Tally) {
 
 /// Without an open table, whatever stands for one: the value counts as what it is, and the calls that make another put zeros there.
 fn closed(value: Value, tally: &mut Tally) {
-    let garbage = Held { state: 7, p: 9, n: 99, t1: [u16::MAX; 16], ..value.waiting };
+    let garbage = Held { state: 7, p: 9, n: 99, t1: [u32::MAX; 16], ..value.waiting };
     for waiting in [garbage, value.waiting, EMPTY] {
         let forged = Value { open: 0, fed: u32::MAX, waiting, ..value };
         let made: [fn(&mut Calls, &mut Tally) -> u32; 3] = [
@@ -107,7 +108,7 @@ fn closed(value: Value, tally: &mut Tally) {
 /// With a table open, what the state of the waiting session does not have: it stays until load, propose or find write the waiting session anew.
 fn not_looked_at(value: Value, tally: &mut Tally) {
     let empty = Held { state: 0, p: 9, n: 99, ..value.waiting };
-    let loaded = Held { state: 1, s: [u16::MAX; 16], r: [u16::MAX; 16], ..changed(value.waiting, 0, 3, u16::MAX) };
+    let loaded = Held { state: 1, s: [u32::MAX; 16], r: [u32::MAX; 16], ..changed(value.waiting, 0, 3, u32::MAX) };
     let mut calls = Calls::new(tally);
     calls.forge(Value { waiting: empty, ..value });
     assert_eq!(calls.find(tally), 21);

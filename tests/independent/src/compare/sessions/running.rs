@@ -23,7 +23,7 @@ impl Running {
     }
 
     /// After a feed that answered 0: it wrote the images under the pair that was current at begin.
-    pub fn fed(&mut self, part: &[u16], image: &[u16], tally: &mut Tally) {
+    pub fn fed(&mut self, part: &[u32], image: &[u32], tally: &mut Tally) {
         let call = if self.forward { "table_forward" } else { "table_back" };
         tally.compare(call, 0, &(&self.pair, part), &image, &&self.pair.images(self.forward, part)[..]);
         self.residues += self.pair.residues(part) as u64;

@@ -26,7 +26,7 @@ fn paired(case: &Case, tally: &mut Tally) -> Calls {
 }
 
 /// Five residues in four parts, one of them empty; between the parts the waiting session goes on, and calls are refused. What the parts wrote.
-fn feed_all(calls: &mut Calls, whole: &[u16], forward: bool, next: &Case, waiting: Waiting, tally: &mut Tally) -> Vec<u16> {
+fn feed_all(calls: &mut Calls, whole: &[u32], forward: bool, next: &Case, waiting: Waiting, tally: &mut Tally) -> Vec<u32> {
     let n = whole.len() / 5;
     let mut images = Vec::new();
     assert_eq!(calls.begin(forward, tally), 0);
@@ -97,7 +97,7 @@ fn as_it_stands(case: &Case, tally: &mut Tally) {
     let mut calls = paired(case, tally);
     let mut waiting = current(&calls.current);
     for list in [&mut waiting.t1, &mut waiting.t2, &mut waiting.s, &mut waiting.r] {
-        list[case.n as usize..].fill(u16::MAX);
+        list[case.n as usize..].fill(u32::MAX);
     }
     calls.begin(false, tally);
     calls.forge(Value { waiting, ..calls.current });
