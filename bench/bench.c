@@ -1,5 +1,5 @@
 /* Compares the answers of our library with those of PARI, FLINT, NTL and plain C on the inputs of every row, and then, unless called with
- * --check, times the rows and prints the table. Moduli and residues are a few kilobytes for all jobs of a row; a table of 32,768 words is
+ * --check, times the rows and prints the table. Moduli and residues are a few kilobytes for all jobs of a row; a table of 16,384 words is
  * 64 KiB in and 64 KiB out, and was read and written in the job before. */
 #include "rows.h"
 #include <stdio.h>
@@ -12,6 +12,7 @@ int does(const peer *who, int what, uint32_t n) {
     return w->run && (!w->most || n <= w->most);
 }
 
+/* The largest p is 1,048,573, and 14 the highest degree that divides p - 1; 1,048,433 is the largest p for which 16 does. */
 static const row rows[] = {
     {"FIND", FIND, 3, 2},
     {"FIND", FIND, 7, 3},
@@ -23,6 +24,9 @@ static const row rows[] = {
     {"FIND", FIND, 65521, 8},
     {"FIND", FIND, 65521, 12},
     {"FIND", FIND, 65521, 16},
+    {"FIND", FIND, 1048573, 2},
+    {"FIND", FIND, 1048573, 4},
+    {"FIND", FIND, 1048573, 14},
     {"FIND", FIND, 2, 2},
     {"FIND", FIND, 2, 4},
     {"FIND", FIND, 2, 8},
@@ -35,6 +39,7 @@ static const row rows[] = {
     {"FIND", FIND, 13, 13},
     {"CHECK", CHECK, 7, 3},
     {"CHECK", CHECK, 65521, 16},
+    {"CHECK", CHECK, 1048573, 14},
     {"MAPS", MAPS, 7, 3},
     {"MAPS", MAPS, 65521, 4},
     {"MAPS", MAPS, 65521, 16},
@@ -46,6 +51,9 @@ static const row rows[] = {
     {"CONVERT", CONVERT, 65521, 4},
     {"CONVERT", CONVERT, 65521, 8},
     {"CONVERT", CONVERT, 65521, 16},
+    {"CONVERT", CONVERT, 1048573, 2},
+    {"CONVERT", CONVERT, 1048573, 4},
+    {"CONVERT", CONVERT, 1048573, 14},
     {"CONVERT one residue", CONVERT, 65521, 2, .single = 1},
     {"CONVERT one residue", CONVERT, 65521, 16, .single = 1},
     {"product", PRODUCT, 65521, 2, .inside = 1},
@@ -56,7 +64,9 @@ static const row rows[] = {
     {"power", POWER, 65521, 16},
     {"substitute", SUBSTITUTE, 65521, 16},
     {"read a card", READ, 65521, 16},
+    {"read a card", READ, 1048433, 16},
     {"write a card", WRITE, 65521, 16},
+    {"write a card", WRITE, 1048433, 16},
 };
 enum { ROWS = sizeof rows / sizeof *rows };
 

@@ -23,20 +23,20 @@ static void fail(const inputs *in, int what, size_t k, const char *why, ...) {
 static uint32_t degree;
 
 static int from_the_top(const void *left, const void *right) {
-    const uint16_t *u = left, *v = right;
+    const uint32_t *u = left, *v = right;
     for (uint32_t i = degree; i-- > 0;)
         if (u[i] != v[i])
             return u[i] < v[i] ? -1 : 1;
     return 0;
 }
 
-size_t sorted(uint32_t n, size_t residues, uint16_t *words) {
+size_t sorted(uint32_t n, size_t residues, uint32_t *words) {
     degree = n;
     qsort(words, residues, n * sizeof *words, from_the_top);
     return residues * n;
 }
 
-static size_t answer(const inputs *in, const peer *who, int what, size_t k, uint16_t *out) {
+static size_t answer(const inputs *in, const peer *who, int what, size_t k, uint32_t *out) {
     who->works[what].run(k);
     size_t count = who->works[what].answer(out);
     if (!count)
@@ -45,12 +45,12 @@ static size_t answer(const inputs *in, const peer *who, int what, size_t k, uint
 }
 
 /* Everyone must answer `right`, 1 or 0, to all jobs; `maker` is who or what made them. */
-static void judge(const inputs *in, int what, uint16_t right, const char *maker) {
+static void judge(const inputs *in, int what, uint32_t right, const char *maker) {
     for (size_t i = 0; i < PEERS; i++)
         if (does(peers[i], what, in->n)) {
             peers[i]->prepare(in);
             for (size_t k = 0; k < in->jobs; k++) {
-                uint16_t given;
+                uint32_t given;
                 answer(in, peers[i], what, k, &given);
                 if (given != right)
                     fail(in, what, k, "%s: %s what was made by %s", peers[i]->name, right ? "refuses" : "accepts", maker);
@@ -65,7 +65,7 @@ static void compare_found(const inputs *in) {
             found = *in;
             peers[i]->prepare(in);
             for (size_t k = 0; k < in->jobs; k++) {
-                uint16_t pair[2 * LARGEST_DEGREE];
+                uint32_t pair[2 * LARGEST_DEGREE];
                 answer(in, peers[i], FIND, k, pair);
                 memcpy(found.job[k].s, pair, in->n * sizeof *pair);
                 memcpy(found.job[k].r, pair + in->n, in->n * sizeof *pair);
@@ -83,7 +83,7 @@ static void compare_refused(const inputs *in) {
         if (k % 2)
             yokebean_power(in->p, in->n, j->t1, in->n, in->job[k].r, in->n, in->p, j->r, in->n);
         else
-            j->s[0] = (uint16_t)((j->s[0] + 1) % in->p);
+            j->s[0] = (j->s[0] + 1) % in->p;
     }
     judge(&wrong, CHECK, 0, "changing S or R");
 }
@@ -97,7 +97,7 @@ static void compare_moduli(const inputs *in) {
 }
 
 static void compare_words(const inputs *in, int what) {
-    static uint16_t own[LARGEST_TABLE], other[LARGEST_TABLE];
+    static uint32_t own[LARGEST_TABLE], other[LARGEST_TABLE];
     ours.prepare(in);
     for (size_t i = 1; i < PEERS; i++)
         if (does(peers[i], what, in->n)) {

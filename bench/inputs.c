@@ -8,17 +8,17 @@
 
 static uint64_t state;
 
-static uint16_t random_below(uint32_t p) {
+static uint32_t random_below(uint32_t p) {
     state ^= state << 13, state ^= state >> 7, state ^= state << 17;
-    return (uint16_t)((state >> 16) % p);
+    return (uint32_t)((state >> 16) % p);
 }
 
-static void random_words(uint32_t p, size_t count, uint16_t *out) {
+static void random_words(uint32_t p, size_t count, uint32_t *out) {
     for (size_t i = 0; i < count; i++)
         out[i] = random_below(p);
 }
 
-static void random_modulus(uint32_t p, uint32_t n, uint16_t *t) {
+static void random_modulus(uint32_t p, uint32_t n, uint32_t *t) {
     do
         random_words(p, n, t);
     while (!is_irreducible(p, n, t));
@@ -33,7 +33,7 @@ static int is_new(const inputs *in, const job *j) {
 
 static void complete(inputs *in, job *j) {
     uint32_t p = in->p, n = in->n;
-    uint16_t *lists[] = {j->t1, j->t2, j->s, j->r};
+    uint32_t *lists[] = {j->t1, j->t2, j->s, j->r};
     random_words(p, n, j->u), random_words(p, n, j->v);
     uint32_t number = yokebean_find(p, n, j->t1, n, j->t2, n, j->s, n, j->r, n);
     for (size_t i = 0; i < 4; i++)
@@ -55,7 +55,7 @@ void choose(const row *which, inputs *in) {
     size_t width = 0;
     while ((in->p - 1) >> width)
         width++;
-    in->card_length = (24 + 4 * in->n * width + 7) / 8;
+    in->card_length = ((in->p > 65535 ? 48 : 24) + 4 * in->n * width + 7) / 8;
     for (int draws = 0; draws < 1000 && in->jobs < MOST_JOBS; draws++) {
         job *next = &in->job[in->jobs];
         random_modulus(in->p, in->n, next->t1), random_modulus(in->p, in->n, next->t2);
@@ -68,7 +68,7 @@ void choose(const row *which, inputs *in) {
 }
 
 /* A monic factor with its leading 1, irreducible or any. */
-static void random_factor(uint32_t p, uint32_t degree, int irreducible, uint16_t *f) {
+static void random_factor(uint32_t p, uint32_t degree, int irreducible, uint32_t *f) {
     if (irreducible)
         random_modulus(p, degree, f);
     else
@@ -76,15 +76,15 @@ static void random_factor(uint32_t p, uint32_t degree, int irreducible, uint16_t
     f[degree] = 1;
 }
 
-static void random_product(uint32_t p, uint32_t n, uint32_t degree, int irreducible, uint16_t *t) {
-    uint16_t f[LARGEST_DEGREE], g[LARGEST_DEGREE];
+static void random_product(uint32_t p, uint32_t n, uint32_t degree, int irreducible, uint32_t *t) {
+    uint32_t f[LARGEST_DEGREE], g[LARGEST_DEGREE];
     uint64_t product[LARGEST_DEGREE + 1] = {0};
     random_factor(p, degree, irreducible, f), random_factor(p, n - degree, irreducible, g);
     for (uint32_t i = 0; i <= degree; i++)
         for (uint32_t j = 0; j <= n - degree; j++)
             product[i + j] += (uint64_t)f[i] * g[j];
     for (uint32_t i = 0; i < n; i++)
-        t[i] = (uint16_t)(product[i] % p);
+        t[i] = (uint32_t)(product[i] % p);
 }
 
 /* As many jobs with the same p and n, n above 1: T1 is the product of two factors, in turn irreducible and any, T2 is T1(-X) made monic, and
@@ -96,7 +96,7 @@ void choose_reducible(const inputs *in, inputs *out) {
         job *j = &out->job[k];
         random_product(in->p, in->n, 1 + (uint32_t)k / 2 % (in->n - 1), k % 2 == 0, j->t1);
         for (uint32_t i = 0; i < in->n; i++)
-            j->t2[i] = (uint16_t)((in->n - i) % 2 ? (in->p - j->t1[i]) % in->p : j->t1[i]);
-        j->s[1] = j->r[1] = (uint16_t)(in->p - 1);
+            j->t2[i] = (in->n - i) % 2 ? (in->p - j->t1[i]) % in->p : j->t1[i];
+        j->s[1] = j->r[1] = in->p - 1;
     }
 }

@@ -7,7 +7,7 @@ static const inputs *in;
 static uint32_t p, n, number;
 static yokebean_session session[MOST_JOBS];
 static yokebean_card card;
-static uint16_t value[2 * LARGEST_DEGREE], list[LARGEST_DEGREE * LARGEST_DEGREE], image[LARGEST_TABLE], words[CARD_WORDS];
+static uint32_t value[2 * LARGEST_DEGREE], list[LARGEST_DEGREE * LARGEST_DEGREE], image[LARGEST_TABLE], words[CARD_WORDS];
 static uint8_t bytes[LARGEST_CARD];
 
 static void prepare(const inputs *given) {
@@ -64,27 +64,27 @@ static void read_card(size_t k) {
 
 static void write_card(size_t k) { number = yokebean_card_write(p, n, 2, in->job[k].coefficients, 4 * n, bytes, in->card_length); }
 
-static size_t given(const uint16_t *from, size_t count, uint16_t *out) {
+static size_t given(const uint32_t *from, size_t count, uint32_t *out) {
     memcpy(out, from, count * sizeof *out);
     return number ? 0 : count;
 }
 
-static size_t accepted(uint16_t *out) {
+static size_t accepted(uint32_t *out) {
     *out = number == 0;
     return 1;
 }
 
-static size_t pair(uint16_t *out) { return given(value, 2 * n, out); }
-static size_t residue(uint16_t *out) { return given(value, n, out); }
-static size_t residues(uint16_t *out) { return given(list, n * n, out); }
-static size_t table(uint16_t *out) { return given(image, in->words, out); }
+static size_t pair(uint32_t *out) { return given(value, 2 * n, out); }
+static size_t residue(uint32_t *out) { return given(value, n, out); }
+static size_t residues(uint32_t *out) { return given(list, n * n, out); }
+static size_t table(uint32_t *out) { return given(image, in->words, out); }
 
-static size_t card_read(uint16_t *out) {
-    out[0] = (uint16_t)card.p, out[1] = (uint16_t)card.n, out[2] = (uint16_t)card.kind;
+static size_t card_read(uint32_t *out) {
+    out[0] = card.p, out[1] = card.n, out[2] = card.kind;
     return given(words, CARD_WORDS, out + 3) ? 3 + CARD_WORDS : 0;
 }
 
-static size_t card_written(uint16_t *out) {
+static size_t card_written(uint32_t *out) {
     for (size_t i = 0; i < in->card_length; i++)
         out[i] = bytes[i];
     return number ? 0 : in->card_length;

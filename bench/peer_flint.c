@@ -27,7 +27,7 @@ static int right;
 static uint32_t p, n;
 static size_t jobs;
 
-static void set(nmod_poly_t f, const uint16_t *words, int monic) {
+static void set(nmod_poly_t f, const uint32_t *words, int monic) {
     nmod_poly_init(f, p);
     for (uint32_t i = 0; i < n; i++)
         nmod_poly_set_coeff_ui(f, i, words[i]);
@@ -146,14 +146,14 @@ static void power(size_t k) {
 
 static void substitute(size_t k) { evaluate(form[k].u, form[k].s, form[k].t2, form[k].inverse2); }
 
-static size_t residue(uint16_t *out) {
+static size_t residue(uint32_t *out) {
     for (uint32_t i = 0; i < n; i++)
-        out[i] = (uint16_t)nmod_poly_get_coeff_ui(value, i);
+        out[i] = (uint32_t)nmod_poly_get_coeff_ui(value, i);
     return n;
 }
 
 /* A root is given as a factor, X less the root. */
-static size_t residues(uint16_t *out) {
+static size_t residues(uint32_t *out) {
     const fq_nmod_poly_factor_struct *all = solved->roots;
     fq_nmod_t root;
     fq_nmod_init(root, solved->field);
@@ -161,21 +161,21 @@ static size_t residues(uint16_t *out) {
         fq_nmod_poly_get_coeff(root, all->poly + k, 0, solved->field);
         fq_nmod_neg(root, root, solved->field);
         for (slong i = 0; i < n; i++)
-            out[k * n + i] = (uint16_t)nmod_poly_get_coeff_ui(root, i);
+            out[k * n + i] = (uint32_t)nmod_poly_get_coeff_ui(root, i);
     }
     fq_nmod_clear(root, solved->field);
     return sorted(n, (size_t)all->num, out);
 }
 
-static size_t converted(uint16_t *out) {
+static size_t converted(uint32_t *out) {
     for (slong g = 0; g < image->r; g++)
         for (slong i = 0; i < n; i++)
-            out[g * n + i] = (uint16_t)nmod_mat_entry(image, g, i);
+            out[g * n + i] = (uint32_t)nmod_mat_entry(image, g, i);
     return (size_t)image->r * n;
 }
 
-static size_t accepted(uint16_t *out) {
-    *out = (uint16_t)right;
+static size_t accepted(uint32_t *out) {
+    *out = (uint32_t)right;
     return 1;
 }
 

@@ -33,7 +33,7 @@ struct Prepared {
 
 Prepared *prepared;
 
-zz_pX polynomial(const uint16_t *words, long n, bool monic) {
+zz_pX polynomial(const uint32_t *words, long n, bool monic) {
     zz_pX f;
     for (long i = 0; i < n; i++)
         SetCoeff(f, i, words[i]);
@@ -120,29 +120,29 @@ void substitute(size_t k) {
     CompMod(prepared->value, f.u, f.s, f.modulus2);
 }
 
-size_t residue(uint16_t *out) {
+size_t residue(uint32_t *out) {
     for (long i = 0; i < prepared->n; i++)
-        out[i] = uint16_t(rep(coeff(prepared->value, i)));
+        out[i] = uint32_t(rep(coeff(prepared->value, i)));
     return size_t(prepared->n);
 }
 
-size_t residues(uint16_t *out) {
+size_t residues(uint32_t *out) {
     long n = prepared->n, count = prepared->roots.length();
     for (long k = 0; k < count; k++)
         for (long i = 0; i < n; i++)
-            out[k * n + i] = uint16_t(rep(coeff(rep(prepared->roots[k]), i)));
+            out[k * n + i] = uint32_t(rep(coeff(rep(prepared->roots[k]), i)));
     return sorted(uint32_t(n), size_t(count), out);
 }
 
-size_t converted(uint16_t *out) {
+size_t converted(uint32_t *out) {
     long n = prepared->n, groups = prepared->image.NumRows();
     for (long g = 0; g < groups; g++)
         for (long i = 0; i < n; i++)
-            out[g * n + i] = uint16_t(rep(prepared->image[g][i]));
+            out[g * n + i] = uint32_t(rep(prepared->image[g][i]));
     return size_t(groups * n);
 }
 
-size_t accepted(uint16_t *out) {
+size_t accepted(uint32_t *out) {
     *out = prepared->right;
     return 1;
 }

@@ -19,7 +19,7 @@ static void start(void) {
         pari_init(64 << 20, 2);
 }
 
-static GEN polynomial(const uint16_t *words, uint32_t count, int monic) {
+static GEN polynomial(const uint32_t *words, uint32_t count, int monic) {
     GEN f = cgetg((long)count + 2 + monic, t_VECSMALL);
     f[1] = 0;
     for (uint32_t i = 0; i < count; i++)
@@ -29,7 +29,7 @@ static GEN polynomial(const uint16_t *words, uint32_t count, int monic) {
     return Flx_renormalize(f, lg(f));
 }
 
-int is_irreducible(uint32_t prime, uint32_t degree, const uint16_t *t) {
+int is_irreducible(uint32_t prime, uint32_t degree, const uint32_t *t) {
     start();
     pari_sp before = avma;
     int answer = Flx_is_irred(polynomial(t, degree, 1), prime);
@@ -88,30 +88,30 @@ static void substitute(size_t k) {
     value = Flx_Flxq_eval(u[k], s[k], t2[k], p);
 }
 
-static void list(GEN f, uint16_t *out) {
+static void list(GEN f, uint32_t *out) {
     for (uint32_t i = 0; i < n; i++)
-        out[i] = i < lgpol(f) ? (uint16_t)f[2 + i] : 0;
+        out[i] = i < lgpol(f) ? (uint32_t)f[2 + i] : 0;
 }
 
-static size_t residue(uint16_t *out) {
+static size_t residue(uint32_t *out) {
     list(value, out);
     return n;
 }
 
-static size_t pair(uint16_t *out) {
+static size_t pair(uint32_t *out) {
     list(value, out), list(back, out + n);
     return 2 * n;
 }
 
-static size_t residues(uint16_t *out) {
+static size_t residues(uint32_t *out) {
     size_t count = lg(value) - 1;
     for (size_t i = 0; i < count; i++)
         list(gel(value, i + 1), out + i * n);
     return sorted(n, count, out);
 }
 
-static size_t accepted(uint16_t *out) {
-    *out = (uint16_t)right;
+static size_t accepted(uint32_t *out) {
+    *out = (uint32_t)right;
     return 1;
 }
 

@@ -10,15 +10,15 @@
 extern "C" {
 #endif
 
-enum { MOST_JOBS = 16, LARGEST_DEGREE = 16, LARGEST_TABLE = 32768, LARGEST_CARD = 131, CARD_WORDS = 64 };
+enum { MOST_JOBS = 16, LARGEST_DEGREE = 16, LARGEST_TABLE = 16384, LARGEST_CARD = 166, CARD_WORDS = 64 };
 
 /* What a residue is raised to: the first binary digits of the square root of 2 after its point, about half of them 1. */
 #define EXPONENT 0x6a09e667f3bcc909ull
 
 /* Two models and a pair of theirs, two residues, and the pair card with its coefficients in card order. */
 typedef struct {
-    uint16_t t1[LARGEST_DEGREE], t2[LARGEST_DEGREE], s[LARGEST_DEGREE], r[LARGEST_DEGREE], u[LARGEST_DEGREE], v[LARGEST_DEGREE];
-    uint16_t coefficients[CARD_WORDS];
+    uint32_t t1[LARGEST_DEGREE], t2[LARGEST_DEGREE], s[LARGEST_DEGREE], r[LARGEST_DEGREE], u[LARGEST_DEGREE], v[LARGEST_DEGREE];
+    uint32_t coefficients[CARD_WORDS];
     uint8_t card[LARGEST_CARD];
 } job;
 
@@ -27,7 +27,7 @@ typedef struct {
     uint32_t p, n;
     size_t jobs, words, card_length;
     job job[MOST_JOBS];
-    uint16_t table[LARGEST_TABLE];
+    uint32_t table[LARGEST_TABLE];
 } inputs;
 
 /* The works and their answers in words:
@@ -51,7 +51,7 @@ enum { BETWEEN = 60 - 12 };
  * is not 0, is the highest degree in which the peer takes part; in higher ones it takes too long. */
 typedef struct {
     void (*run)(size_t k);
-    size_t (*answer)(uint16_t *words);
+    size_t (*answer)(uint32_t *words);
     uint32_t most;
 } work;
 
@@ -64,10 +64,10 @@ typedef struct {
 extern const peer ours, pari, flint, ntl, plain, plain_card;
 
 /* PARI's test of X^n + t. */
-int is_irreducible(uint32_t p, uint32_t n, const uint16_t *t);
+int is_irreducible(uint32_t p, uint32_t n, const uint32_t *t);
 
 /* Puts residues of n words in ascending order, compared from the highest power down, and gives the number of their words. */
-size_t sorted(uint32_t n, size_t residues, uint16_t *words);
+size_t sorted(uint32_t n, size_t residues, uint32_t *words);
 
 #ifdef __cplusplus
 }

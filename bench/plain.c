@@ -12,7 +12,7 @@ static uint64_t p;
 static size_t n, words;
 static forms form[MOST_JOBS];
 static uint64_t value[LARGEST_DEGREE];
-static uint16_t list[LARGEST_DEGREE * LARGEST_DEGREE], table[LARGEST_TABLE], image[LARGEST_TABLE];
+static uint32_t list[LARGEST_DEGREE * LARGEST_DEGREE], table[LARGEST_TABLE], image[LARGEST_TABLE];
 
 static void multiply(const uint64_t *t, const uint64_t *u, const uint64_t *v, uint64_t *out) {
     uint64_t w[LARGEST_DEGREE] = {0};
@@ -34,7 +34,7 @@ static void set_powers(const uint64_t *t, const uint64_t *s, uint64_t rows[][LAR
         multiply(t, rows[i - 1], s, rows[i]);
 }
 
-static void widen(const uint16_t *from, uint64_t *to) {
+static void widen(const uint32_t *from, uint64_t *to) {
     for (size_t i = 0; i < n; i++)
         to[i] = from[i];
 }
@@ -76,7 +76,7 @@ static void substitute(size_t k) {
     }
 }
 
-static int lower(const uint16_t *u, const uint16_t *v) {
+static int lower(const uint32_t *u, const uint32_t *v) {
     for (size_t i = n; i-- > 0;)
         if (u[i] != v[i])
             return u[i] < v[i];
@@ -85,9 +85,9 @@ static int lower(const uint16_t *u, const uint16_t *v) {
 
 /* Inserts value into the first k residues of the list, which are in ascending order. */
 static void insert(size_t k) {
-    uint16_t u[LARGEST_DEGREE];
+    uint32_t u[LARGEST_DEGREE];
     for (size_t i = 0; i < n; i++)
-        u[i] = (uint16_t)value[i];
+        u[i] = (uint32_t)value[i];
     for (; k > 0 && lower(u, list + (k - 1) * n); k--)
         memcpy(list + k * n, list + (k - 1) * n, n * sizeof *list);
     memcpy(list + k * n, u, n * sizeof *list);
@@ -119,22 +119,22 @@ static void convert(size_t k) {
             uint64_t sum = 0;
             for (size_t j = 0; j < n; j++)
                 sum += f->powers[j][i] * table[g + j];
-            image[g + i] = (uint16_t)(sum % p);
+            image[g + i] = (uint32_t)(sum % p);
         }
 }
 
-static size_t residue(uint16_t *out) {
+static size_t residue(uint32_t *out) {
     for (size_t i = 0; i < n; i++)
-        out[i] = (uint16_t)value[i];
+        out[i] = (uint32_t)value[i];
     return n;
 }
 
-static size_t residues(uint16_t *out) {
+static size_t residues(uint32_t *out) {
     memcpy(out, list, n * n * sizeof *out);
     return n * n;
 }
 
-static size_t converted(uint16_t *out) {
+static size_t converted(uint32_t *out) {
     memcpy(out, image, words * sizeof *out);
     return words;
 }
