@@ -12,7 +12,7 @@ pub struct CardValue {
     pub kind: u32,
 }
 
-// Reads a card; its coefficients go into the first of 64 lent words, the rest become 0: 0, or 3, 11, 1, 12, 11, 13, 4.
+// Reads a card; its coefficients go into the first of 64 lent words, the rest become 0: 0, or 3, 11, 1, 28, 12, 11, 13, 4.
 #[no_mangle]
 pub extern "C" fn yokebean_card_read(bytes: &[u8], words: &mut [Word]) -> CardValue
     ensures { λ r. ⌜ r .number ≡ readNumber (now (bytes .entry)) (now (words .entry)) ⌝ }

@@ -123,10 +123,9 @@ fn is_filled(card: &[u8], wide: bool, end: usize) -> bool
     ensures { λ r. ⌜ r ≡ all (λ b. eqb b 0) (fillOf (layout wide) end (unpacked (now (card .entry)))) ⌝ }
 {
     let l = layout_of(wide);
-    if field(card, l.before + l.digits + 8, l.after) != 0 {
-        return false;
-    }
-    zero_from(card, end)
+    let between = field(card, l.before + l.digits + 8, l.after);
+    let last = zero_from(card, end);
+    (between == 0) & last
 }
 
 // Word k, which follows the `start` bits of the header and k words of w bits.

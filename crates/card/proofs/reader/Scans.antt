@@ -1,10 +1,11 @@
 -- The reader's tests of every fill bit and of every word, each a scan from the front.
-use mathlib.Core.Path.{_≡_, refl, sym, ap, _∙_}
-use mathlib.Core.Bool.{Bool, true, false, _&&_}
+use mathlib.Core.Path.{_≡_, refl, sym, ap, ap₂, _∙_}
+use mathlib.Core.Bool.{Bool, true, false, _&&_, false≢true}
 use mathlib.Core.List.{List}
 use Prim.Native.Nat.{ℕ, suc, _+_, _-_, _*_, _≤_, _<_}
 use native.Mathlib.Nat.{mul-le-mul-right}
 use native.Mathlib.Omega.{arith}
+use lib.Dec.{eqb}
 use lib.ListN.{length, getD, take, drop, replicate, length-drop}
 use lib.Seq.{getD-drop, length-take-le}
 use borrow.Author.Tests.{eq-eqb, ne-eqb}
@@ -56,25 +57,26 @@ module _ (ys : List ℕ) (wide : Bool) (l : Layout) (end : ℕ) (e : l ≡ layou
         length-take-le (layout wide .after) (drop (layout wide .before + layout wide .digits + 8) (unpacked ys))
         (omega (arith, unpacked-length ys, length-drop (layout wide .before + layout wide .digits + 8) (unpacked ys)))
 
-    pub after-fails : (r ≡ 0 → ⊥) → false ≡ all isZero (fillOf (layout wide) end (unpacked ys))
+    after-test : eqb r 0 ≡ all isZero after-zeros
     unfolding after-zeros
-    after-fails h = sym (parts ∙ by-test (all isZero after-zeros) refl)
+    after-test = by-test (all isZero after-zeros) refl
       where
-        by-test : (b : Bool) → all isZero after-zeros ≡ b → (b && all isZero (drop end (unpacked ys))) ≡ false
+        by-test : (b : Bool) → all isZero after-zeros ≡ b → eqb r 0 ≡ b
         by-test true t =
-            absurd
-            (h
+            eq-eqb r 0
             (after-field
             ∙ field-zero (unpacked-words ys) (layout wide .before + layout wide .digits + 8) (layout wide .after) (omega arith)
-            (all-zeros after-zeros t ∙ ap (λ k. replicate k 0) after-size)))
-        by-test false t = refl
+            (all-zeros after-zeros t ∙ ap (λ k. replicate k 0) after-size))
+        by-test false t =
+            ne-eqb r 0
+            (λ h. false≢true
+            (sym t
+            ∙ ap (all isZero)
+            (zero-field (unpacked-words ys) (layout wide .before + layout wide .digits + 8) (layout wide .after) (omega arith) (sym after-field ∙ h))
+            ∙ zeros-pass (layout wide .after)))
 
-    pub after-holds : r ≡ 0 → (z : Bool) → z ≡ all isZero (drop end (unpacked ys)) → z ≡ all isZero (fillOf (layout wide) end (unpacked ys))
-    unfolding after-zeros
-    after-holds h z ez =
-        let zeros : after-zeros ≡ replicate (layout wide .after) 0 =
-        zero-field (unpacked-words ys) (layout wide .before + layout wide .digits + 8) (layout wide .after) (omega arith) (sym after-field ∙ h) in
-        ez ∙ sym (parts ∙ ap (λ b. b && all isZero (drop end (unpacked ys))) (ap (all isZero) zeros ∙ zeros-pass (layout wide .after)))
+    pub fill-tested : (z : Bool) → z ≡ all isZero (drop end (unpacked ys)) → (eqb r 0 && z) ≡ all isZero (fillOf (layout wide) end (unpacked ys))
+    fill-tested z ez = ap₂ _&&_ after-test ez ∙ sym parts
 
 module _ (ys : List ℕ) (p start w count k : ℕ) (so-far : allBelow p (fieldsAt (unpacked ys) start w count) ≡ allBelow p (drop k (fieldsAt (unpacked ys) start w count))) where
   pub words-next : (v : ℕ) → k < count → v ≡ fieldAt (unpacked ys) (start + k * w) w → v < p

@@ -1,9 +1,10 @@
 -- What each test of `table_number` says of the number, in the order of the conditions.
 use mathlib.Core.Path.{_≡_}
-use mathlib.Core.Bool.{Bool, true, false, and-true}
+use mathlib.Core.Bool.{Bool, true, false, and-true, or-true}
 use mathlib.Core.List.{List, [], _∷_}
 use Prim.Native.Nat.{ℕ, _%_, _≤_, _<_}
 use borrow.Author.Tests.{le-ltb, lt-ltb, eq-eqb, ne-eqb}
+use lib.Dec.{ltb}
 use lib.ListN.{length}
 use Rattle.algebra.specs.Lists.{all}
 use Rattle.array.specs.Words.{allBelow}
@@ -15,11 +16,11 @@ module _ (p n : ℕ) (table out : List ℕ) where
   unfolding tableNumber
   too-long h = rw (lt-ltb mostWords (length table) h)
 
-  module _ (few : length table ≤ mostWords) where
-    pub no-groups : (length table % n ≡ 0 → ⊥) → 9 ≡ tableNumber p n table out
-    unfolding tableNumber
-    no-groups h = rw (le-ltb mostWords (length table) few, ne-eqb (length table % n) 0 h)
+  pub no-groups : (length table % n ≡ 0 → ⊥) → 9 ≡ tableNumber p n table out
+  unfolding tableNumber
+  no-groups h = rw (ne-eqb (length table % n) 0 h, or-true (ltb mostWords (length table)))
 
+  module _ (few : length table ≤ mostWords) where
     module _ (groups : length table % n ≡ 0) where
       pub other-length : (length out ≡ length table → ⊥) → 10 ≡ tableNumber p n table out
       unfolding tableNumber

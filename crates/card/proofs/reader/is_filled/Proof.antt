@@ -1,6 +1,6 @@
 -- `reader::is_filled`: the zero bits of the header, then those that fill the last byte.
 use borrow.Author.Needs.{needs}
-use Rattle.card.proofs.reader.Scans.{after-place, after-fails, after-holds}
+use Rattle.card.proofs.reader.Scans.{after-place, fill-tested}
 use Rattle.card.proofs.reader.is_filled.Statement.{statement}
 use Rattle.card.proofs.reader.is_filled.Tie as tie
 
@@ -16,23 +16,13 @@ add-field-2 c = search needs
 field-requires : tie.Need-field-requires
 field-requires c κs = (search needs, search after-place, search needs)
 
-returns : tie.Need-returns
-returns c = search after-fails
-
 zero-from-requires : tie.Need-zero-from-requires
 zero-from-requires c κs = search needs
 
-returns-2 : tie.Need-returns-2
-returns-2 c = search after-holds
+returns : tie.Need-returns
+returns c = search fill-tested
 
 pub is-filled-spec : {M : Type 1} → statement M
 is-filled-spec =
     tie.close
-    (tie.spec
-    layout-of-requires
-    add-field
-    add-field-2
-    field-requires
-    returns
-    zero-from-requires
-    returns-2)
+    (tie.spec layout-of-requires add-field add-field-2 field-requires zero-from-requires returns)

@@ -1,11 +1,12 @@
 -- Each test decides one condition, in their order.
 use borrow.Author.Needs.{needs}
+use native.Mathlib.Omega.{arith}
 use Rattle.table.proofs.number.Laws.{too-long, no-groups, other-length, all-below, not-all-below}
 use Rattle.table.proofs.number.table_number.Statement.{statement}
 use Rattle.table.proofs.number.table_number.Tie as tie
 
 returns : tie.Need-returns
-returns c = search too-long
+returns c = too-long _ _ _ _ (omega arith)
 
 rem-if2 : tie.Need-rem-if2
 rem-if2 c = search needs
