@@ -3,7 +3,7 @@ pub mod Words
 pub mod Painted
 pub mod Padded
 pub mod Below
-mod Largest
+mod Tested
 pub mod Copying
 pub mod Ascending
 pub mod Filling

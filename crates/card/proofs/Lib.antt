@@ -12,6 +12,7 @@ pub mod Written
 mod Read
 pub mod Theorem
 pub mod Places
+mod WholeBytes
 mod Entries
 pub mod Copied
 pub mod OneList

@@ -36,18 +36,28 @@ fn bit(card: &[u8], i: usize) -> u32
     digit(card[i / 8] as u32, 7 - (i % 8) as u32)
 }
 
-// The number in the w bits from place i on.
+// The number in the bytes from place `first` to before place `end`, of which there are at most four.
+fn whole_bytes(card: &[u8], first: usize, end: usize) -> u32
+    requires { ⌜ (first ≤ end) × (end ≤ first + 4) × (end ≤ length (now card)) ⌝ }
+    ensures { λ r. ⌜ r ≡ fieldAt (unpacked (now (card .entry))) (8 * first) (8 * (end - first)) ⌝ }
+{
+    let mut value = 0;
+    let mut k = first;
+    while k < end {
+        value = value * 256 + card[k] as u32;
+        k += 1;
+    }
+    value
+}
+
+// The number in the w bits from place i on: that in the bytes which have them, without the bits behind them and before them.
 fn field(card: &[u8], i: usize, w: usize) -> u32
     requires { ⌜ (w ≤ 20) × (i + w ≤ 8 * length (now card)) × (i ≤ 1328) ⌝ }
     ensures { λ r. ⌜ (r ≡ fieldAt (unpacked (now (card .entry))) i w) × (r < 2 ^ w) × (r < 2 ^ 20) ⌝ }
 {
-    let mut value = 0;
-    let mut j = 0;
-    while j < w {
-        value = value * 2 + bit(card, i + j);
-        j += 1;
-    }
-    value
+    let end = (i + w + 7) / 8;
+    let value = whole_bytes(card, i / 8, end);
+    (value >> (8 * end - (i + w)) as u32) % (1 << w as u32)
 }
 
 // Whether the card starts with 16 zero bits, as wide cards do.

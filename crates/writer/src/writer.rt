@@ -1,13 +1,15 @@
 // The writer of cards. Every byte is a function of its place, and nothing is written before the last refusal is decided.
+ghost use mathlib.Core.List.{[]};
 ghost use mathlib.Core.Path.{_≡_};
 ghost use Prim.Native.Nat.{_*_, _≤_, _<_};
 ghost use lib.ListN.{length, getD};
 ghost use Rattle.card.specs.Bits.{unpacked};
-ghost use Rattle.card.specs.Card.{width as widthOf, allBits, card, writeNumber, writeOutput};
+ghost use Rattle.card.specs.Card.{layout, headerBits, isOver, width as widthOf, allBits, header, card, writeNumber, writeOutput};
 use array::Word;
 use array::list::below;
 use card::layout::byte_count;
 use card::layout::digit;
+use card::layout::header_bits;
 use card::layout::layout_of;
 use card::layout::width;
 use card::layout::word_count;
@@ -27,10 +29,10 @@ fn word_bit(w: usize, words: &[Word], i: usize) -> u32
     }
 }
 
-// Bit i of the card, where w is the width of p.
-fn bit(p: u32, n: u32, kind: u32, w: usize, words: &[Word], i: usize) -> u32
-    requires { ⌜ (1 ≤ n) × (1 ≤ w) × (w ≤ 20) × (w ≡ widthOf p) ⌝ }
-    ensures { λ r. ⌜ (r ≡ getD (unpacked (card p n kind (now (words .entry)))) i 0) × (r < 2) ⌝ }
+// Bit i of the header.
+fn header_bit(p: u32, n: u32, kind: u32, i: usize) -> u32
+    requires { ⌜ (1 ≤ n) × (i < headerBits (layout (isOver p))) ⌝ }
+    ensures { λ r. ⌜ (r ≡ getD (header (layout (isOver p)) p n kind []) i 0) × (r < 2) ⌝ }
 {
     let l = layout_of(p > 65535);
     let place = l.before + l.digits;
@@ -46,10 +48,19 @@ fn bit(p: u32, n: u32, kind: u32, w: usize, words: &[Word], i: usize) -> u32
     if i < place + 8 {
         return digit(kind, (place + 7 - i) as u32);
     }
-    if i < place + 8 + l.after {
-        return 0;
+    0
+}
+
+// Bit i of the card, where w is the width of p. Most are bits of words, which are looked for first.
+fn bit(p: u32, n: u32, kind: u32, w: usize, words: &[Word], i: usize) -> u32
+    requires { ⌜ (1 ≤ n) × (1 ≤ w) × (w ≤ 20) × (w ≡ widthOf p) ⌝ }
+    ensures { λ r. ⌜ (r ≡ getD (unpacked (card p n kind (now (words .entry)))) i 0) × (r < 2) ⌝ }
+{
+    let start = header_bits(p > 65535);
+    if start <= i {
+        return word_bit(w, words, i - start);
     }
-    word_bit(w, words, i - (place + 8 + l.after))
+    header_bit(p, n, kind, i)
 }
 
 // Byte k of the card.

@@ -1,5 +1,5 @@
 -- The bits of a card that is written, by their places: zeros, those of p, of n − 1 and of kind, zeros, those of the words, and zeros.
-use mathlib.Core.Path.{_≡_, sym, ap, _∙_}
+use mathlib.Core.Path.{_≡_, sym, ap, ap₂, _∙_}
 use mathlib.Core.List.{List, [], _++_}
 use Prim.Native.Nat.{ℕ, suc, _+_, _-_, _*_, _/_, _%_, _^_, _≤_, _<_}
 use native.Mathlib.Nat.{mod-lt, div-mul-le-self, mul-le-mul-right, le-trans}
@@ -79,39 +79,52 @@ module _ (l : Layout) (p n kind : ℕ) (rest : List ℕ) (i : ℕ) where
   header-bit-rest h =
       rw header-split (getD-skip (header l p n kind []) rest (i - headerBits l) i (omega (arith, header-place l p n kind (i - headerBits l))))
 
-module _ (p n kind : ℕ) (words : List ℕ) (i r : ℕ) (l : Layout) (e : l ≡ layout (isOver p)) where
-  -- the bits of the card, in the layout that the writer uses
+-- by the tests of the code
+module _ (p n kind : ℕ) (i r : ℕ) (l : Layout) (e : l ≡ layout (isOver p)) where
+  abbrev headerOnly : List ℕ
+  headerOnly = header (layout (isOver p)) p n kind []
+
+  header-is : headerOnly ≡ header l p n kind []
+  header-is = ap (λ (x : Layout). header x p n kind []) (sym e)
+
+  pub bit-before : i < l .before → 0 ≡ getD headerOnly i 0
+  bit-before h = rw header-is (sym (header-bit-before l p n kind [] i h))
+
+  pub bit-prime : l .before ≤ i → i < l .before + l .digits → r ≡ p / 2 ^ (l .before + l .digits - 1 - i) % 2 → r ≡ getD headerOnly i 0
+  bit-prime h k f = rw header-is (f ∙ sym (header-bit-prime l p n kind [] i h k))
+
+  pub bit-degree : l .before + l .digits ≤ i → i < l .before + l .digits + 4 → r ≡ (n - 1) / 2 ^ (l .before + l .digits + 3 - i) % 2 → r ≡ getD headerOnly i 0
+  bit-degree h k f = rw header-is (f ∙ sym (header-bit-degree l p n kind [] i h k))
+
+  pub bit-kind : l .before + l .digits + 4 ≤ i → i < l .before + l .digits + 8 → r ≡ kind / 2 ^ (l .before + l .digits + 7 - i) % 2 → r ≡ getD headerOnly i 0
+  bit-kind h k f = rw header-is (f ∙ sym (header-bit-kind l p n kind [] i h k))
+
+  pub bit-after : l .before + l .digits + 8 ≤ i → i < headerBits (layout (isOver p)) → 0 ≡ getD headerOnly i 0
+  bit-after h k = rw header-is (sym (header-bit-after l p n kind [] i h (rw e k)))
+
+module _ (p n kind : ℕ) (words : List ℕ) (i r : ℕ) where
+  -- the bits behind the header
   rest : List ℕ
   rest = allBits (width p) words ++ replicate (fillCount p n kind words) 0
 
-  card-is : unpacked (card p n kind words) ≡ header l p n kind rest
+  card-is : unpacked (card p n kind words) ≡ header (layout (isOver p)) p n kind rest
   unfolding rest
-  card-is = unpacked-card p n kind words ∙ ap (λ (x : Layout). header x p n kind rest) (sym e)
+  card-is = unpacked-card p n kind words
 
-  pub bit-before : i < l .before → 0 ≡ getD (unpacked (card p n kind words)) i 0
-  bit-before h = rw card-is (sym (header-bit-before l p n kind rest i h))
-
-  pub bit-prime : l .before ≤ i → i < l .before + l .digits → r ≡ p / 2 ^ (l .before + l .digits - 1 - i) % 2 → r ≡ getD (unpacked (card p n kind words)) i 0
-  bit-prime h k f = rw card-is (f ∙ sym (header-bit-prime l p n kind rest i h k))
-
-  pub bit-degree : l .before + l .digits ≤ i → i < l .before + l .digits + 4 → r ≡ (n - 1) / 2 ^ (l .before + l .digits + 3 - i) % 2
+  pub bit-header : (start : ℕ) → start ≡ headerBits (layout (isOver p)) → i < start → r ≡ getD (header (layout (isOver p)) p n kind []) i 0
       → r ≡ getD (unpacked (card p n kind words)) i 0
-  bit-degree h k f = rw card-is (f ∙ sym (header-bit-degree l p n kind rest i h k))
+  bit-header start es h f =
+      rw (card-is, header-split)
+      (f ∙ sym (List·getD-append (header (layout (isOver p)) p n kind []) rest 0 i (omega (arith, header-place (layout (isOver p)) p n kind 0))))
 
-  pub bit-kind : l .before + l .digits + 4 ≤ i → i < l .before + l .digits + 8 → r ≡ kind / 2 ^ (l .before + l .digits + 7 - i) % 2
+  pub bit-words : (start w : ℕ) → start ≡ headerBits (layout (isOver p)) → start ≤ i → w ≡ width p → r ≡ getD (allBits w words) (i - start) 0
       → r ≡ getD (unpacked (card p n kind words)) i 0
-  bit-kind h k f = rw card-is (f ∙ sym (header-bit-kind l p n kind rest i h k))
-
-  pub bit-after : l .before + l .digits + 8 ≤ i → i < headerBits l → 0 ≡ getD (unpacked (card p n kind words)) i 0
-  bit-after h k = rw card-is (sym (header-bit-after l p n kind rest i h k))
-
-  pub bit-words : (w : ℕ) → headerBits l ≤ i → w ≡ width p → r ≡ getD (allBits w words) (i - headerBits l) 0 → r ≡ getD (unpacked (card p n kind words)) i 0
   unfolding rest
-  bit-words w h ew f =
+  bit-words start w es h ew f =
       rw card-is
       (f
-      ∙ ap (λ v. getD (allBits v words) (i - headerBits l) 0) ew
-      ∙ sym (header-bit-rest l p n kind rest i h ∙ getD-zeros (allBits (width p) words) (fillCount p n kind words) (i - headerBits l)))
+      ∙ ap₂ (λ a v. getD (allBits v words) (i - a) 0) es ew
+      ∙ sym (header-bit-rest (layout (isOver p)) p n kind rest i (rw (← es) h) ∙ getD-zeros (allBits (width p) words) (fillCount p n kind words) (i - headerBits (layout (isOver p)))))
 
 -- eight bits from place 8·k on are byte k
 pub byte-end : (p n kind : ℕ) (words : List ℕ) (k j value : ℕ) → value ≡ fieldAt (unpacked (card p n kind words)) (8 * k) j → j ≤ 8 → 8 ≤ j → k < length (card p n kind words)

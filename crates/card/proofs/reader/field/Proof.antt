@@ -1,58 +1,58 @@
--- `reader::field`: after j turns the value is the number in the first j bits.
-use mathlib.Core.Path.{_≡_}
-use Prim.Native.Nat.{_≤_, _<_, _-_, _^_}
+-- `reader::field`: the whole bytes, without the bits behind the field and before it.
 use borrow.Author.Needs.{needs}
-use Rattle.card.specs.Bits.{unpacked}
-use Rattle.card.specs.Card.{fieldAt}
-use Rattle.card.proofs.Places.{field-starts, field-turn, field-turn-small, field-end, field-end-below}
+use Rattle.card.proofs.WholeBytes.{field-code, power-positive}
 use Rattle.card.proofs.reader.field.Statement.{statement}
 use Rattle.card.proofs.reader.field.Tie as tie
 
-abbrev Inv-loop : tie.InvT-loop
-Inv-loop card i w value₀ j₀ value j = (j ≤ w) × (value ≡ fieldAt (unpacked card) i j) × (value < 2 ^ 20)
+add-end : tie.Need-add-end
+add-end c = search needs
 
-abbrev μ-loop : tie.MeasureT-loop
-μ-loop card i w value₀ j₀ value j = w - j
+add-end-2 : tie.Need-add-end-2
+add-end-2 c = search needs
 
-loop-holds : tie.Need-loop-holds Inv-loop μ-loop
-loop-holds c = (search needs, search field-starts, search needs)
+whole-bytes-requires : tie.Need-whole-bytes-requires
+whole-bytes-requires c κs = search needs
 
-mul-value : tie.Need-mul-value Inv-loop μ-loop
-mul-value c = search needs
+mul-result : tie.Need-mul-result
+mul-result c = search needs
 
-add-bit : tie.Need-add-bit Inv-loop μ-loop
-add-bit c = search needs
+add-result : tie.Need-add-result
+add-result c = search needs
 
-bit-requires : tie.Need-bit-requires Inv-loop μ-loop
-bit-requires c κs = search needs
+sub-result : tie.Need-sub-result
+sub-result c = search needs
 
-add-value : tie.Need-add-value Inv-loop μ-loop
-add-value c = search needs
+cast-result : tie.Need-cast-result
+cast-result c = search needs
 
-add-j : tie.Need-add-j Inv-loop μ-loop
-add-j c = search needs
+shr-result : tie.Need-shr-result
+shr-result c = search needs
 
-loop-less : tie.Need-loop-less Inv-loop μ-loop
-loop-less c = search needs
+cast-result-2 : tie.Need-cast-result-2
+cast-result-2 c = search needs
 
-loop-again : tie.Need-loop-again Inv-loop μ-loop
-loop-again c = (search needs, search field-turn, search field-turn-small)
+shl-result : tie.Need-shl-result
+shl-result c = search needs
 
-returns : tie.Need-returns Inv-loop μ-loop
-returns c = (search field-end, search field-end-below, search needs)
+rem-result : tie.Need-rem-result
+rem-result c = search power-positive
+
+returns : tie.Need-returns
+returns c = field-code _ _ _ (search needs) _ (c .whole-bytes .ensures) (search needs)
 
 pub field-spec : {M : Type 1} → statement M
 field-spec =
     tie.close
     (tie.spec
-    Inv-loop
-    μ-loop
-    loop-holds
-    mul-value
-    add-bit
-    bit-requires
-    add-value
-    add-j
-    loop-less
-    loop-again
+    add-end
+    add-end-2
+    whole-bytes-requires
+    mul-result
+    add-result
+    sub-result
+    cast-result
+    shr-result
+    cast-result-2
+    shl-result
+    rem-result
     returns)
