@@ -1,6 +1,6 @@
 // A residue of n words, each of 32 bits, in an array of 16 words of 64 bits.
 ghost use mathlib.Core.Path.{_≡_};
-ghost use Prim.Native.Nat.{_≤_, _^_};
+ghost use Prim.Native.Nat.{_≤_};
 ghost use lib.ListN.{length, take};
 ghost use Rattle.array.specs.Array.{padded, Holds};
 ghost use Rattle.array.specs.Words.{wordBound};

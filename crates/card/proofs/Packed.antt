@@ -4,10 +4,10 @@
 use mathlib.Core.Path.{_≡_, refl, sym, ap, ap₂, _∙_}
 use mathlib.Core.List.{List, [], _∷_, _++_}
 use Prim.Native.Nat.{ℕ, zero, suc, _+_, _-_, _*_, _/_, _≤_, _<_}
-use native.Mathlib.Nat.{mul-comm}
+use native.Mathlib.Nat.{mul-comm, le-of-suc-le-suc}
 use native.Mathlib.Omega.{arith}
 use lib.Dec.{lit<, lit≤}
-use lib.ListN.{length, take, drop, replicate, length-drop, replicate-append-replicate}
+use lib.ListN.{length, getD, take, drop, replicate, length-drop, replicate-append-replicate}
 use lib.Seq.{take-at, drop-at}
 use Rattle.algebra.specs.Lists.{All}
 use Rattle.array.specs.Words.{Words}
@@ -20,6 +20,11 @@ use Rattle.card.proofs.Zeros.{take-replicate}
 
 abbrev pub Bytes : List ℕ → Type 0
 Bytes ys = All (λ y. y < 256) ys
+
+pub byte-below : (ys : List ℕ) (k : ℕ) → Bytes ys → k < length ys → getD ys k 0 < 256
+byte-below [] k b h = absurd (omega arith)
+byte-below (y ∷ ys) zero b h = b .0
+byte-below (y ∷ ys) (suc k) b h = byte-below ys k (b .1) (le-of-suc-le-suc h)
 
 -- bytes are words of eight bits
 pub unpacked-all-bits : (ys : List ℕ) → unpacked ys ≡ allBits 8 ys

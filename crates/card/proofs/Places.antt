@@ -9,7 +9,6 @@ use native.Mathlib.Omega.{arith}
 use lib.ListN.{length, getD, take, drop, length-drop}
 use lib.Pow.{pow-mono}
 use lib.Seq.{take-suc, getD-drop}
-use Rattle.algebra.specs.Lists.{All}
 use Rattle.card.specs.Bits.{bits, number, numberFrom, unpacked}
 use Rattle.card.specs.Card.{allBits, fieldAt, fieldsAt}
 use Rattle.card.proofs.Bits.{bits-length, bit-of-bits, numberFrom-append}
@@ -70,12 +69,12 @@ word-at bs i w (suc count) (suc k) h =
     word-at bs (i + w) w count k (le-of-suc-le-suc h) ∙ ap (λ m. fieldAt bs m w) e
 
 -- a byte is a field of eight bits
-pub byte-is-field : (ys : List ℕ) (k : ℕ) → All (λ y. y < 256) ys → k < length ys → fieldAt (unpacked ys) (8 * k) 8 ≡ getD ys k 0
+pub byte-is-field : (ys : List ℕ) (k : ℕ) → k < length ys → getD ys k 0 < 256 → fieldAt (unpacked ys) (8 * k) 8 ≡ getD ys k 0
 unfolding unpacked
-byte-is-field [] k b h = absurd (omega arith)
-byte-is-field (y ∷ ys) zero b h = field-here 8 y (unpacked ys) (b .0)
-byte-is-field (y ∷ ys) (suc k) b h =
-    field-skip (bits 8 y) (unpacked ys) (8 * k) (8 * suc k) 8 (omega (arith, bits-length 8 y)) ∙ byte-is-field ys k (b .1) (le-of-suc-le-suc h)
+byte-is-field [] k h b = absurd (omega arith)
+byte-is-field (y ∷ ys) zero h b = field-here 8 y (unpacked ys) b
+byte-is-field (y ∷ ys) (suc k) h b =
+    field-skip (bits 8 y) (unpacked ys) (8 * k) (8 * suc k) 8 (omega (arith, bits-length 8 y)) ∙ byte-is-field ys k (le-of-suc-le-suc h) b
 
 pub byte-fits : (ys : List ℕ) (k : ℕ) → k < length ys → 8 * k + 8 ≤ 8 * length ys
 byte-fits ys k h = omega arith

@@ -1,9 +1,9 @@
 -- A field by way of the whole bytes that have its bits: the number in these bytes grows by one byte at a time, and the field is what is left without
 -- the bits behind it and before it.
 use mathlib.Core.Path.{_≡_, refl, sym, ap, ap₂, _∙_}
-use mathlib.Core.List.{List, [], _∷_, _++_}
-use Prim.Native.Nat.{ℕ, zero, suc, _+_, _-_, _*_, _/_, _%_, _^_, _≤_, _<_}
-use native.Mathlib.Nat.{pow-suc, mod-eq-of-lt, le-antisymm, le-of-suc-le-suc, lt-of-lt-of-le, div-lt-iff-lt-mul, add-mul-mod-self-right}
+use mathlib.Core.List.{List, _++_}
+use Prim.Native.Nat.{ℕ, suc, _+_, _-_, _*_, _/_, _%_, _^_, _≤_, _<_}
+use native.Mathlib.Nat.{pow-suc, mod-eq-of-lt, le-antisymm, lt-of-lt-of-le, div-lt-iff-lt-mul, add-mul-mod-self-right}
 use native.Mathlib.Decide.{decLt}
 use native.Mathlib.Omega.{arith}
 use lib.ListN.{length, getD, take, drop}
@@ -13,10 +13,11 @@ use mir.Syntax.{w32}
 use mir.Val.{Fits}
 use Rattle.array.specs.Words.{Words, none, more}
 use Rattle.array.proofs.Words.{take-words, drop-words}
-use Rattle.card.specs.Bits.{bits, number, numberFrom, unpacked}
+use Rattle.card.specs.Bits.{number, numberFrom, unpacked}
 use Rattle.card.specs.Card.{fieldAt}
-use Rattle.card.proofs.Bits.{bits-length, numberFrom-append}
-use Rattle.card.proofs.Fields.{field-below, field-here, field-skip}
+use Rattle.card.proofs.Bits.{numberFrom-append}
+use Rattle.card.proofs.Fields.{field-below}
+use Rattle.card.proofs.Places.{byte-is-field}
 use Rattle.card.proofs.Packed.{unpacked-words}
 
 -- the number with the bits bs behind those of h
@@ -33,20 +34,12 @@ number-high (more {a = b} {n = k} {u = bs} l w) h =
 
 -- a field of two parts
 module _ {m : ℕ} {bs : List ℕ} (all-bits : Words 2 m bs) (i a b : ℕ) (within : i + a + b ≤ m) where
-  pub field-parts : fieldAt bs i (a + b) ≡ fieldAt bs i a * 2 ^ b + fieldAt bs (i + a) b
+  field-parts : fieldAt bs i (a + b) ≡ fieldAt bs i a * 2 ^ b + fieldAt bs (i + a) b
   unfolding fieldAt
   field-parts =
       ap number (take-add a b (drop i bs) ∙ ap (λ (l : List ℕ). take a (drop i bs) ++ take b l) (drop-drop a i bs))
       ∙ numberFrom-append 0 (take a (drop i bs)) (take b (drop (i + a) bs))
       ∙ number-high (take-words (drop-words all-bits (i + a)) b (omega arith)) (number (take a (drop i bs)))
-
--- a byte is a field of eight bits
-pub byte-field : (ys : List ℕ) (k : ℕ) → k < length ys → getD ys k 0 < 256 → fieldAt (unpacked ys) (8 * k) 8 ≡ getD ys k 0
-unfolding unpacked
-byte-field [] k h b = absurd (omega arith)
-byte-field (y ∷ ys) zero h b = field-here 8 y (unpacked ys) b
-byte-field (y ∷ ys) (suc k) h b =
-    field-skip (bits 8 y) (unpacked ys) (8 * k) (8 * suc k) 8 (omega (arith, bits-length 8 y)) ∙ byte-field ys k (le-of-suc-le-suc h) b
 
 module _ (ys : List ℕ) (first k value : ℕ) (so-far : value ≡ fieldAt (unpacked ys) (8 * first) (8 * (k - first))) (from : first ≤ k) where
   -- a number of up to three bytes
@@ -66,7 +59,7 @@ module _ (ys : List ℕ) (first k value : ℕ) (so-far : value ≡ fieldAt (unpa
   bytes-turn end next to b =
       let more : 8 * (k - first) + 8 ≡ 8 * (k + 1 - first) = omega arith in
       let place : 8 * first + 8 * (k - first) ≡ 8 * k = omega arith in
-      ap₂ (λ x y. x * 256 + y) so-far (sym (byte-field ys k (omega arith) b) ∙ ap (λ p. fieldAt (unpacked ys) p 8) (sym place))
+      ap₂ (λ x y. x * 256 + y) so-far (sym (byte-is-field ys k (omega arith) b) ∙ ap (λ p. fieldAt (unpacked ys) p 8) (sym place))
       ∙ sym (field-parts (unpacked-words ys) (8 * first) (8 * (k - first)) 8 (omega arith))
       ∙ ap (fieldAt (unpacked ys) (8 * first)) more
 

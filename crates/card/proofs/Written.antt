@@ -14,7 +14,7 @@ use Rattle.array.specs.Words.{Words, none}
 use Rattle.array.proofs.Words.{words-length, words-up, append-words, zeros-words}
 use Rattle.modular.specs.Prime.{largestPrime}
 use Rattle.card.specs.Bits.{bits, numberFrom, unpacked}
-use Rattle.card.specs.Card.{layout, headerBits, isOver, layoutAt, width, wordCount, allBits, header, card, fieldAt, fieldsAt, isWide, cardPrime, cardDegree, cardKind, cardWords, fillOf, fillBits}
+use Rattle.card.specs.Card.{layout, headerBits, isOver, width, wordCount, allBits, header, card, fieldAt, fieldsAt, isWide, cardPrime, cardDegree, cardKind, cardWords, fillOf, fillBits}
 use Rattle.card.specs.declared.layout.Layout.{Layout}
 use Rattle.card.proofs.Bits.{bits-words, bits-length}
 use Rattle.card.proofs.Packed.{Bytes, packed-below, packed-length, unpacked-packed}

@@ -1,7 +1,6 @@
 -- Wide cards (document 02, S-9), computed.
 use mathlib.Core.Path.{_≡_}
 use mathlib.Core.List.{[], _∷_}
-use Prim.Native.Nat.{ℕ}
 use lib.ListN.{replicate}
 use Rattle.card.specs.Card.{card, cardPrime, cardDegree, cardKind, cardWords, readNumber}
 

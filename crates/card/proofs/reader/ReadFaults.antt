@@ -1,19 +1,19 @@
 -- The reader's refusals in their order: at each return of the code the conditions before it do not apply and its own does.
 --   bodyNumber ys l p count   the refusals after those of the header
-use mathlib.Core.Path.{_≡_, refl, sym, ap, ap₂, _∙_}
-use mathlib.Core.Bool.{Bool, true, false, _||_, _&&_, not}
+use mathlib.Core.Path.{_≡_, sym, ap, ap₂, _∙_}
+use mathlib.Core.Bool.{Bool, true, false, _&&_, not}
 use mathlib.Core.List.{List, [], _∷_}
 use Prim.Native.Nat.{ℕ, _+_, _*_, _/_, _≤_, _<_}
 use native.Mathlib.Omega.{arith}
 use lib.Dec.{ltb, eqb}
-use lib.ListN.{length, drop}
+use lib.ListN.{length}
 use borrow.Author.Tests.{eq-eqb, ne-eqb, lt-ltb, le-ltb, not-true, not-false}
 use Rattle.algebra.specs.Lists.{all}
 use Rattle.modular.specs.Prime.{isPrime}
 use Rattle.array.specs.Words.{allBelow}
 use Rattle.refusal.specs.Refusal.{refuse, badPrime, badWord}
 use Rattle.card.specs.Bits.{unpacked}
-use Rattle.card.specs.Card.{layout, headerBits, isOver, layoutAt, width, badKind, wordCount, cardLength, fieldAt, fieldsAt, isWide, cardPrime, cardDegree, cardKind, cardWords, badHeader, badLayout, fillOf, fillBits, readNumber}
+use Rattle.card.specs.Card.{layout, headerBits, isOver, width, badKind, wordCount, cardLength, fieldAt, fieldsAt, isWide, cardPrime, cardDegree, cardKind, cardWords, badHeader, badLayout, fillOf, fillBits, readNumber}
 use Rattle.refusal.proofs.Lists.{given-lengths}
 use Rattle.card.proofs.Zeros.{isZero}
 use Rattle.card.proofs.OneList.{bad-length-one, bad-word-one}

@@ -1,7 +1,7 @@
 -- The arrays that hold T and S, and the divisor q that is p.
 use mathlib.Core.Path.{_≡_, _∙_}
 use mathlib.Core.List.{List, flatten}
-use Prim.Native.Nat.{ℕ, _≤_}
+use Prim.Native.Nat.{ℕ}
 use lib.ListN.{take}
 use Rattle.algebra.specs.Prime.{Prime}
 use Rattle.array.specs.Array.{padded, Holds}

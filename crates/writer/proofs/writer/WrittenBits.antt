@@ -12,6 +12,7 @@ use Rattle.card.specs.declared.layout.Layout.{Layout}
 use Rattle.card.proofs.Bits.{bits-length, bit-of-bits}
 use Rattle.card.proofs.Zeros.{getD-zeros}
 use Rattle.card.proofs.Fields.{all-bits-length}
+use Rattle.card.proofs.Packed.{byte-below}
 use Rattle.card.proofs.Places.{words-bit, field-end, byte-is-field, byte-fits}
 use Rattle.card.proofs.Written.{header-split, header-place, fillCount, unpacked-card, card-bytes}
 
@@ -130,4 +131,4 @@ module _ (p n kind : ℕ) (words : List ℕ) (i r : ℕ) where
 pub byte-end : (p n kind : ℕ) (words : List ℕ) (k j value : ℕ) → value ≡ fieldAt (unpacked (card p n kind words)) (8 * k) j → j ≤ 8 → 8 ≤ j → k < length (card p n kind words)
     → value ≡ getD (card p n kind words) k 0
 byte-end p n kind words k j value e l m h =
-    field-end (card p n kind words) (8 * k) 8 (byte-fits (card p n kind words) k h) j value e l m ∙ byte-is-field (card p n kind words) k (card-bytes p n kind words) h
+    field-end (card p n kind words) (8 * k) 8 (byte-fits (card p n kind words) k h) j value e l m ∙ byte-is-field (card p n kind words) k h (byte-below (card p n kind words) k (card-bytes p n kind words) h)

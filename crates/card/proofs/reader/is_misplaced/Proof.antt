@@ -1,5 +1,4 @@
 -- `reader::is_misplaced`: one law for each return.
-use borrow.Author.Needs.{needs}
 use Rattle.card.proofs.reader.ReadFaults.{not-misplaced, misplaced-decides}
 use Rattle.card.proofs.reader.is_misplaced.Statement.{statement}
 use Rattle.card.proofs.reader.is_misplaced.Tie as tie
