@@ -21,7 +21,7 @@ pub extern "C" fn yokebean_card_read(bytes: &[u8], words: &mut [Word]) -> CardVa
     ensures { λ r. ⌜ r .kind ≡ readKind (now (bytes .entry)) (now (words .entry)) ⌝ }
     ensures { λ r. ⌜ now (words .exit) ≡ readOutput (now (bytes .entry)) (now (words .entry)) ⌝ }
 {
-    let found = card::reader::read(bytes, words);
+    let found = reader::reader::read(bytes, words);
     CardValue {
         number: found.number,
         p: found.p,

@@ -4,7 +4,7 @@ pub mod Zeros
 pub mod Bits
 pub mod Fields
 pub mod Packed
-mod Width
+pub mod Width
 pub mod CardKinds
 pub mod Header
 pub mod Refusals
@@ -12,8 +12,5 @@ pub mod Written
 mod Read
 pub mod Theorem
 pub mod Places
-mod WholeBytes
-mod Entries
 pub mod Copied
 pub mod OneList
-pub mod Answers

@@ -14,9 +14,9 @@ use answer::lines::put_refusal;
 use answer::lines::put_ring;
 use answer::lines::put_valid;
 use array::Word;
-use card::reader::read;
 use pair::checker::check;
 use pair::checker::congruences_hold;
+use reader::reader::read;
 
 // The line of the pair card of the words, to which no refusal of the writer applies.
 fn print_card(p: u32, n: u32, words: &[Word], text: &mut [u8]) -> usize

@@ -1,6 +1,6 @@
 -- `writer::write`: refused, nothing is written; else the list is the card.
 use borrow.Author.Needs.{needs}
-use Rattle.card.proofs.Answers.{write-refused, write-accepted, prime-fits, degree-there, width-there, room-exact, room-most}
+use Rattle.writer.proofs.writer.WriteAnswers.{write-refused, write-accepted, prime-fits, degree-there, width-there, room-exact, room-most}
 use Rattle.writer.proofs.writer.write.Statement.{statement}
 use Rattle.writer.proofs.writer.write.Tie as tie
 
