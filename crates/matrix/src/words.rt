@@ -3,7 +3,7 @@ ghost use mathlib.Core.Path.{_≡_};
 ghost use Prim.Native.Nat.{_%_, _≤_, _<_};
 ghost use lib.ListN.{length};
 ghost use Rattle.array.specs.Words.{Words};
-ghost use Rattle.array.specs.Array.{Square, rowProduct};
+ghost use Rattle.array.specs.Array.{padded, Square, rowProduct};
 ghost use Rattle.modular.specs.Barrett.{Reduces};
 ghost use Rattle.matrix.specs.Matrix.{matrixProduct};
 use crate::product::dot;
@@ -40,13 +40,27 @@ fn multiply_few(d: Barrett, n: usize, m: &[u64; 256], u: &[Word], out: &mut [Wor
     }
 }
 
+// The n words of u in an array. Where they are eight or sixteen the compiler knows their number, and loads them without a loop.
+fn load_words(n: usize, u: &[Word]) -> [u64; 16]
+    requires { ⌜ (n ≤ 16) × (length (now u) ≡ n) ⌝ }
+    ensures { λ r. ⌜ r ≡ padded (now (u .entry)) ⌝ }
+{
+    if n == 16 {
+        return load(&u[..16]);
+    }
+    if n == 8 {
+        return load(&u[..8]);
+    }
+    load(u)
+}
+
 // The product with many words, which are loaded once for all rows.
 fn multiply_many(d: Barrett, n: usize, m: &[u64; 256], u: &[Word], out: &mut [Word])
     requires { ⌜ Reduces d × (n ≤ 16) × (length (now out) ≡ n) ⌝ }
     requires { ⌜ Square (d .p) n (now m) × Words (d .p) n (now u) ⌝ }
     ensures { λ _. ⌜ now (out .exit) ≡ matrixProduct (d .p) n (now (m .entry)) (now (u .entry)) ⌝ }
 {
-    let loaded = load(u);
+    let loaded = load_words(n, u);
     let mut i = 0;
     while i < n {
         out[i] = dot(d, n, m, &loaded, i) as Word;

@@ -5,7 +5,7 @@ use Prim.Native.Nat.{ℕ, _%_, _≤_, _<_}
 use native.Mathlib.Nat as Nat
 use native.Mathlib.Omega.{arith}
 use lib.ListN.{length, take}
-use lib.Seq.{drop-length}
+use lib.Seq.{take-all, drop-length}
 use mir.Syntax.{w32}
 use mir.Val.{Fits}
 use Rattle.algebra.specs.Lists.{range}
@@ -40,3 +40,17 @@ module _ (p n i : ℕ) (m u out₀ out : List ℕ) (e : out ≡ painted out₀ (
 pub loaded-done : (p n i : ℕ) (m u v out₀ out : List ℕ) → u ≡ padded v → Words p n v → length out₀ ≡ n → i ≤ n → n ≤ i
     → out ≡ painted out₀ (productWord p m (take n u)) i → out ≡ matrixProduct p n m v
 loaded-done p n i m u v out₀ out f w size l l′ e = list-done p n i m (take n u) out₀ out e size l l′ ∙ ap (matrixProduct p n m) (front-is f w)
+
+-- the front of as many words as a list has
+module _ (k n : ℕ) (u : List ℕ) (size : length u ≡ n) (e : n ≡ k) where
+  front-whole : take k u ≡ u
+  front-whole = take-all k u (omega arith)
+
+  pub front-count : k ≡ length (take k u)
+  front-count = sym (ap length front-whole ∙ size ∙ e)
+
+  pub front-short : n ≤ 16 → length (take k u) ≤ 16
+  front-short h = rw front-whole (omega arith)
+
+  pub front-loaded : (r : List ℕ) → r ≡ padded (take k u) → r ≡ padded u
+  front-loaded r h = h ∙ ap padded front-whole

@@ -3,7 +3,7 @@ use borrow.Author.Needs.{needs}
 use mathlib.Core.Path.{_≡_}
 use Prim.Native.Nat.{_-_, _≤_}
 use lib.ListN.{length, take}
-use Rattle.array.proofs.Words.{words-short}
+use Rattle.array.proofs.Words.{words-length}
 use Rattle.array.proofs.Padded.{holds-is}
 use Rattle.array.proofs.Painted.{painted, painted-none}
 use Rattle.matrix.proofs.product.ProductLoop.{productWord, apply-turn}
@@ -17,8 +17,8 @@ Inv-loop d n m u out₀ loaded i₀ out i = (i ≤ n) × (length out ≡ n) × (
 abbrev μ-loop : tie.MeasureT-loop
 μ-loop d n m u out₀ loaded i₀ out i = n - i
 
-load-requires : tie.Need-load-requires Inv-loop μ-loop
-load-requires c κs = search words-short
+load-words-requires : tie.Need-load-words-requires Inv-loop μ-loop
+load-words-requires c κs = (search needs, search words-length)
 
 loop-holds : tie.Need-loop-holds Inv-loop μ-loop
 loop-holds c = (search needs, search needs, search painted-none)
@@ -56,7 +56,7 @@ multiply-many-spec =
     (tie.spec
     Inv-loop
     μ-loop
-    load-requires
+    load-words-requires
     loop-holds
     dot-requires
     cast-out

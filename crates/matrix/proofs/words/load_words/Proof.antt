@@ -1,0 +1,42 @@
+-- A front of as many words as there are is the whole list.
+use borrow.Author.Needs.{needs}
+use Rattle.matrix.proofs.words.WordLoop.{front-count, front-short, front-loaded}
+use Rattle.matrix.proofs.words.load_words.Statement.{statement}
+use Rattle.matrix.proofs.words.load_words.Tie as tie
+
+slice-aggregate-load : tie.Need-slice-aggregate-load
+slice-aggregate-load c = search front-count
+
+load-requires : tie.Need-load-requires
+load-requires c κs = search front-short
+
+returns : tie.Need-returns
+returns c = search front-loaded
+
+slice-aggregate-load-2 : tie.Need-slice-aggregate-load-2
+slice-aggregate-load-2 c = search front-count
+
+load-requires-2 : tie.Need-load-requires-2
+load-requires-2 c κs = search front-short
+
+returns-2 : tie.Need-returns-2
+returns-2 c = search front-loaded
+
+load-requires-3 : tie.Need-load-requires-3
+load-requires-3 c κs = search needs
+
+returns-3 : tie.Need-returns-3
+returns-3 c = search needs
+
+pub load-words-spec : {M : Type 1} → statement M
+load-words-spec =
+    tie.close
+    (tie.spec
+    slice-aggregate-load
+    load-requires
+    returns
+    slice-aggregate-load-2
+    load-requires-2
+    returns-2
+    load-requires-3
+    returns-3)
