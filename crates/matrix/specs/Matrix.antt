@@ -6,9 +6,10 @@
 --   Placed n j u m m'       m' is m with the first n words of u in column j
 --   column n m j            the first n words of column j
 --   matrixProduct p n m u   the products of the first n rows with u, modulo p
+--   dot f u                 f 0·u_0 + f 1·u_1 + …, over all words of u
 use mathlib.Core.Path.{_≡_}
-use mathlib.Core.List.{List, map}
-use Prim.Native.Nat.{ℕ, zero, suc, _%_, _≤_, _<_}
+use mathlib.Core.List.{List, [], _∷_, map}
+use Prim.Native.Nat.{ℕ, zero, suc, _+_, _*_, _%_, _≤_, _<_}
 use lib.ListN.{length, getD}
 use Rattle.algebra.specs.Lists.{range}
 use Rattle.array.specs.Array.{entry, Square, rowProduct}
@@ -40,3 +41,7 @@ column n m j = map (λ i. entry m i j) (range 0 n)
 
 unfoldable pub matrixProduct : ℕ → ℕ → List ℕ → List ℕ → List ℕ
 matrixProduct p n m u = map (λ i. rowProduct m i 0 u % p) (range 0 n)
+
+unfoldable pub dot : (ℕ → ℕ) → List ℕ → ℕ
+dot f [] = 0
+dot f (a ∷ u) = f 0 * a + dot (λ j. f (suc j)) u

@@ -1,22 +1,21 @@
 -- The loop that writes the words of a product into a list.
 use mathlib.Core.Path.{_≡_, sym, ap, _∙_}
-use mathlib.Core.List.{List, _++_, map, append-nil}
+use mathlib.Core.List.{List}
 use Prim.Native.Nat.{ℕ, _%_, _≤_, _<_}
 use native.Mathlib.Nat as Nat
 use native.Mathlib.Omega.{arith}
 use lib.ListN.{length, take}
-use lib.Seq.{take-all, drop-length}
+use lib.Seq.{take-all}
 use mir.Syntax.{w32}
 use mir.Val.{Fits}
-use Rattle.algebra.specs.Lists.{range}
 use Rattle.array.specs.Words.{Words}
 use Rattle.array.specs.Array.{padded}
 use Rattle.array.proofs.Padded.{front-is}
-use Rattle.array.proofs.Painted.{painted, table, painted-is}
+use Rattle.array.proofs.Painted.{painted}
 use Rattle.modular.specs.Barrett.{Reduces}
 use Rattle.modular.specs.declared.barrett.Barrett.{Barrett}
 use Rattle.matrix.specs.Matrix.{matrixProduct}
-use Rattle.matrix.proofs.Filled.{table-range}
+use Rattle.matrix.proofs.Ranges.{painted-range}
 use Rattle.matrix.proofs.product.ProductLoop.{productWord}
 
 pub word-fits : (d : Barrett) (r x : ℕ) → Reduces d → r ≡ x % d .p → Fits w32 r
@@ -27,14 +26,7 @@ word-fits d r x h e =
 module _ (p n i : ℕ) (m u out₀ out : List ℕ) (e : out ≡ painted out₀ (productWord p m u) i) where
   pub list-done : length out₀ ≡ n → i ≤ n → n ≤ i → out ≡ matrixProduct p n m u
   unfolding matrixProduct productWord
-  list-done size l l′ =
-      let same : i ≡ length out₀ = omega arith in
-      e ∙ ap (painted out₀ (productWord p m u)) same
-      ∙ painted-is out₀ (productWord p m u) (length out₀) (Nat.le-refl (length out₀))
-      ∙ ap (λ l. table (productWord p m u) (length out₀) ++ l) (drop-length out₀)
-      ∙ append-nil _
-      ∙ table-range (productWord p m u) (productWord p m u) 0 (length out₀) (λ k. ap (productWord p m u) (sym (Nat.zero-add k)))
-      ∙ ap (λ k. map (productWord p m u) (range 0 k)) size
+  list-done size l l′ = painted-range (productWord p m u) n i out₀ out size l l′ e
 
 -- of an array that is given as v and zeros
 pub loaded-done : (p n i : ℕ) (m u v out₀ out : List ℕ) → u ≡ padded v → Words p n v → length out₀ ≡ n → i ≤ n → n ≤ i
