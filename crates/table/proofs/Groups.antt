@@ -4,7 +4,7 @@
 --   group-by-group     and the j-th group of the images is the image of the j-th group
 --   groups-same        two maps that agree on such words have the same images
 --   groups-undone      a map that undoes f gives the groups back
---   converted-images   what that says of a table to which 9, 10 and 4 do not apply
+--   images, converted-images   what that says of a table to which 9, 10 and 4 do not apply
 use mathlib.Core.Path.{_≡_, refl, sym, ap, ap₂, _∙_}
 use mathlib.Core.List.{List, [], _++_}
 use Prim.Native.Nat.{ℕ, zero, suc, _+_, _*_, _/_, _≤_, _<_}
@@ -85,21 +85,25 @@ module _ {p n : ℕ} {table out : List ℕ} (h : Convertible p n table out) wher
   pub table-groups : Words p (length table / n * n) table
   table-groups = rw (whole-groups h) (h .words)
 
+  -- under any map of groups
+  module _ (f : List ℕ → List ℕ) (maps : Maps p n f) where
+    pub image-words : Words p (length table) (eachGroup n f (length table / n) table)
+    image-words = rw (whole-groups h) at (groups-words f maps (length table / n) table table-groups)
+
+    pub images : Images n f table (eachGroup n f (length table / n) table)
+    images = record { same-length = words-length image-words; groups = λ k below. group-by-group f maps (length table / n) k table table-groups below }
+
   module _ {t s : List ℕ} (big : 2 ≤ p) (wt : Words p n t) (ws : Words p n s) where
     maps : Maps p n (substitute p t s)
     maps u w = substitute-words big wt ws w
 
     pub converted-words : Words p (length table) (converted p n t s table)
     unfolding converted
-    converted-words = rw (whole-groups h) at (groups-words (substitute p t s) maps (length table / n) table table-groups)
+    converted-words = image-words (substitute p t s) maps
 
     pub converted-images : Images n (substitute p t s) table (converted p n t s table)
     unfolding converted
-    converted-images =
-        record {
-          same-length = words-length converted-words;
-          groups = λ k below. group-by-group (substitute p t s) maps (length table / n) k table table-groups below;
-        }
+    converted-images = images (substitute p t s) maps
 
     -- what was converted can be converted again, into a list of the output's length
     pub converted-convertible : (lent : List ℕ) → length lent ≡ length out → Convertible p n (converted p n t s table) lent

@@ -1,2 +1,2 @@
--- What the proof of `table_number` uses.
-mod Laws
+-- What the proofs of the numbers use.
+pub mod Laws

@@ -2,6 +2,7 @@
 --   mostWords                   the most words that one conversion takes
 --   eachGroup n f k table       f of each of the first k groups of n words, one after the other
 --   converted p n t s table     the images of a table's groups under u ↦ u(S) modulo T
+--   refuseTable n table out rest   9 and 10, by the lengths of a table and of the list lent for its image; then what comes after
 --   tableNumber p n table out   the refusals by a table and the list lent for its image: 9, 10, 4
 --   Images n f table image      image has the table's length, and its k-th group of n words is f of the table's k-th group, for every k
 use mathlib.Core.Path.{_≡_}
@@ -23,10 +24,12 @@ eachGroup n f (suc k) table = f (take n table) ++ eachGroup n f k (drop n table)
 unfoldable pub converted : ℕ → ℕ → List ℕ → List ℕ → List ℕ → List ℕ
 converted p n t s table = eachGroup n (substitute p t s) (length table / n) table
 
+abbrev pub refuseTable : ℕ → List ℕ → List ℕ → ℕ → ℕ
+refuseTable n table out rest =
+    refuse 9 (ltb mostWords (length table) || not (eqb (length table % n) 0)) (refuse 10 (not (eqb (length out) (length table))) rest)
+
 unfoldable pub tableNumber : ℕ → ℕ → List ℕ → List ℕ → ℕ
-tableNumber p n table out =
-    refuse 9 (ltb mostWords (length table) || not (eqb (length table % n) 0))
-    (refuse 10 (not (eqb (length out) (length table))) (refuse 4 (badWord p (table ∷ [])) 0))
+tableNumber p n table out = refuseTable n table out (refuse 4 (badWord p (table ∷ [])) 0)
 
 pub record Images (n : ℕ) (f : List ℕ → List ℕ) (table image : List ℕ) : Type 0 where
   pub same-length : length image ≡ length table

@@ -13,8 +13,8 @@ ghost use Rattle.modular.specs.Barrett.{Reduces};
 ghost use Rattle.matrix.specs.Matrix.{matrixProduct};
 ghost use Rattle.table.specs.Table.{eachGroup, converted, tableNumber};
 
-// The products of a matrix with the groups of a table, one after the other.
-fn convert_groups(d: Barrett, n: usize, m: &[u64; 256], table: &[Word], out: &mut [Word])
+// The products of a matrix with the groups of a table, one after the other: the one conversion of tables, by substitution and by a matrix that is sent.
+pub fn convert_groups(d: Barrett, n: usize, m: &[u64; 256], table: &[Word], out: &mut [Word])
     requires { ⌜ Reduces d × (1 ≤ n) × (n ≤ 16) ⌝ }
     requires { ⌜ Square (d .p) n (now m) ⌝ }
     requires { ⌜ tableNumber (d .p) n (now table) (now out) ≡ 0 ⌝ }

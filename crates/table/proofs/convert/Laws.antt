@@ -4,8 +4,8 @@
 --   starts, turn, done    it holds at 0; a turn keeps it at i + n; at the end the output is what is promised
 --   converts              the products with the powers of S are the images
 use mathlib.Core.Path.{_≡_, refl, sym, ap, ap₂, _∙_}
-use mathlib.Core.List.{List, _++_, map, append-nil, append-assoc}
-use Prim.Native.Nat.{ℕ, zero, suc, _+_, _-_, _/_, _%_, _≤_, _<_}
+use mathlib.Core.List.{List, _++_, append-nil, append-assoc}
+use Prim.Native.Nat.{ℕ, _+_, _-_, _/_, _%_, _≤_, _<_}
 use native.Mathlib.Nat as Nat
 use native.Mathlib.Decide.{decLt}
 use native.Mathlib.Numerals.{add-one}
@@ -13,13 +13,13 @@ use native.Mathlib.Omega.{arith}
 use lib.ListN.{length, take, drop, length-drop, length-append}
 use lib.Seq.{length-take-le, drop-drop, take-at, take-all}
 use borrow.Rule.Slice.PartMut.{putMid, postOf, same-len-mid}
-use Rattle.algebra.specs.Lists.{range}
-use Rattle.array.specs.Words.{Words, none, more}
+use Rattle.array.specs.Words.{Words}
 use Rattle.array.specs.Array.{padded, Square, rowProduct}
 use Rattle.array.proofs.Words.{words-length, take-words, drop-words}
 use Rattle.array.proofs.Padded.{front-is}
 use Rattle.matrix.specs.Matrix.{Powers, matrixProduct}
 use Rattle.matrix.proofs.PowerMatrix.{product-substitutes, powers-square}
+use Rattle.matrix.proofs.Ranges.{range-words}
 use Rattle.quotient.specs.Residue.{substitute}
 use Rattle.table.specs.Table.{eachGroup, converted, tableNumber}
 use Rattle.table.proofs.Convertible.{Convertible, table-given}
@@ -27,14 +27,9 @@ use Rattle.table.proofs.Groups.{table-groups, groups-same}
 
 -- one group
 
-product-words-from : (p i k : ℕ) (m u : List ℕ) → 0 < p → Words p k (map (λ i. rowProduct m i 0 u % p) (range i k))
-unfolding range
-product-words-from p i zero m u h = none
-product-words-from p i (suc k) m u h = more (Nat.mod-lt _ h) (product-words-from p (suc i) k m u h)
-
 product-words : (p n : ℕ) (m u : List ℕ) → 0 < p → Words p n (matrixProduct p n m u)
 unfolding matrixProduct
-product-words p n m u h = product-words-from p 0 n m u h
+product-words p n m u h = range-words (λ i. rowProduct m i 0 u % p) 0 n (λ i l. Nat.mod-lt _ h)
 
 -- the groups
 
