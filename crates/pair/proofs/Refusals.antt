@@ -106,7 +106,7 @@ module _ (p n number : ℕ) (t1 t2 s r : List ℕ) (exact : Bool) (e : number �
     wrong-three g h = rw f (wrong .2 g h)
 
 -- where none applies, the output list is right, and the checker accepts
-none-of-output : (b : Bool) (p n : ℕ) (t1 t2 s r : List ℕ) → checkNumberOr b p n t1 t2 s r ≡ 0 → (b ≡ false) × (checkNumber p n t1 t2 s r ≡ 0)
+pub none-of-output : (b : Bool) (p n : ℕ) (t1 t2 s r : List ℕ) → checkNumberOr b p n t1 t2 s r ≡ 0 → (b ≡ false) × (checkNumber p n t1 t2 s r ≡ 0)
 unfolding checkNumberOr
 none-of-output false p n t1 t2 s r e = (refl, e)
 none-of-output true p n t1 t2 s r e = absurd (go (badPrime p) (badDegree n) e)

@@ -1,0 +1,2 @@
+-- What the proofs of `build` use.
+mod Laws

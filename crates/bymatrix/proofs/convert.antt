@@ -1,0 +1,2 @@
+-- What the proofs of `convert` use.
+mod Laws

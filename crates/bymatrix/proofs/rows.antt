@@ -1,0 +1,3 @@
+-- What the proofs of `rows` use.
+mod Counters
+mod Loops
