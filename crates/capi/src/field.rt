@@ -3,6 +3,7 @@ ghost use mathlib.Core.Path.{_≡_};
 ghost use Rattle.irreducible.specs.Irreducible.{irreducibleNumber};
 ghost use Rattle.finder.specs.Finder.{findNumber, findOutputS, findOutputR};
 ghost use Rattle.maps.specs.Maps.{mapsNumber, mapsOutput};
+ghost use Rattle.bymatrix.specs.ByMatrix.{matricesNumber, forwardOutput, backOutput, byMatrixNumber, byMatrixOutput};
 ghost use Rattle.pair.specs.Pair.{checkNumber};
 ghost use Rattle.sheet.specs.Sheet.{sheetLength, sheetNumber, sheetOutput};
 ghost use Rattle.arithmetic.specs.Calls.{substituteNumber, substituteOutput, productNumber, productOutput, powerNumber, powerOutput};
@@ -47,6 +48,40 @@ pub extern "C" fn yokebean_maps(
     ensures { λ k. ⌜ now (out .exit) ≡ mapsOutput p n (now (t1 .entry)) (now (t2 .entry)) (now (s .entry)) (now (r .entry)) (now (out .entry)) ⌝ }
 {
     maps::call::maps(p, n, t1, t2, s, r, out)
+}
+
+// forward := the matrix of u ↦ u(S) modulo T2, back := that of u ↦ u(R) modulo T1, each row after row: 0, or 1, 2, 3, 4, 6, 7, 8.
+#[no_mangle]
+pub extern "C" fn yokebean_matrices(
+    p: u32,
+    n: u32,
+    t1: &[Word],
+    t2: &[Word],
+    s: &[Word],
+    r: &[Word],
+    forward: &mut [Word],
+    back: &mut [Word],
+) -> u32
+    ensures { λ k. ⌜ k ≡ matricesNumber p n (now (t1 .entry)) (now (t2 .entry)) (now (s .entry)) (now (r .entry)) (now (forward .entry)) (now (back .entry)) ⌝ }
+    ensures { λ k. ⌜ now (forward .exit) ≡ forwardOutput p n (now (t1 .entry)) (now (t2 .entry)) (now (s .entry)) (now (r .entry)) (now (forward .entry)) (now (back .entry)) ⌝ }
+    ensures { λ k. ⌜ now (back .exit) ≡ backOutput p n (now (t1 .entry)) (now (t2 .entry)) (now (s .entry)) (now (r .entry)) (now (forward .entry)) (now (back .entry)) ⌝ }
+{
+    bymatrix::build::matrices(p, n, t1, t2, s, r, forward, back)
+}
+
+// out := the matrix times each group of n words of the table: 0, or 1, 2, 3, 9, 10, 4.
+#[no_mangle]
+pub extern "C" fn yokebean_matrix_convert(
+    p: u32,
+    n: u32,
+    matrix: &[Word],
+    table: &[Word],
+    out: &mut [Word],
+) -> u32
+    ensures { λ k. ⌜ k ≡ byMatrixNumber p n (now (matrix .entry)) (now (table .entry)) (now (out .entry)) ⌝ }
+    ensures { λ k. ⌜ now (out .exit) ≡ byMatrixOutput p n (now (matrix .entry)) (now (table .entry)) (now (out .entry)) ⌝ }
+{
+    bymatrix::convert::convert_by_matrix(p, n, matrix, table, out)
 }
 
 // out := T1, T2, S and R printed on a sheet: 0, or 1, 2, 3, 4, 6, 7, 8.

@@ -1,10 +1,11 @@
--- The proofs of all promises, of the examples, the cards, the sheets, the reports, the maps, the towers and the table in parts.
+-- The proofs of all promises, of the examples, the cards, the sheets, the reports, the maps, the matrices, the towers and the table in parts.
 mod Promises
 mod Examples
 mod CardExamples
 mod SheetExamples
 mod LedgerExamples
 mod MapsExamples
+mod MatrixExamples
 mod TowerExamples
 mod OpenTableExamples
 mod Listed

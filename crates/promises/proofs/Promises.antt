@@ -1,5 +1,6 @@
 -- Every promise with its proof.
 use Rattle.answer.proofs.LongInput as Answer
+use Rattle.bymatrix.proofs.Theorem as ByMatrix
 use Rattle.card.proofs.Theorem as Card
 use Rattle.runs.proofs.OverC as Values
 use Rattle.finder.proofs.Theorem as Finder
@@ -23,6 +24,7 @@ use Rattle.promises.proofs.CardExamples as CardExamples
 use Rattle.promises.proofs.Examples as Examples
 use Rattle.promises.proofs.LedgerExamples as LedgerExamples
 use Rattle.promises.proofs.MapsExamples as MapsExamples
+use Rattle.promises.proofs.MatrixExamples as MatrixExamples
 use Rattle.promises.proofs.OpenTableExamples as OpenTableExamples
 use Rattle.promises.proofs.TowerExamples as TowerExamples
 use Rattle.promises.proofs.SheetExamples as SheetExamples
@@ -86,6 +88,11 @@ promises =
       end-closes = OpenTable.end-closes;
       clear-drops = OpenTable.clear-drops;
       open-table-examples = OpenTableExamples.open-table-examples;
+      matrix-columns = ByMatrix.matrix-columns;
+      matrix-is-substitution = ByMatrix.matrix-is-substitution;
+      every-matrix = ByMatrix.every-matrix;
+      matrices-are-inverse = ByMatrix.matrices-are-inverse;
+      matrix-examples = MatrixExamples.matrix-examples;
       values-follow = Values.values-follow;
       examples = Examples.examples;
     }

@@ -6,6 +6,7 @@
 -- public call is proved equal to a definition: `check` to checkNumber, `find` to findNumber, findOutputS and findOutputR, and so on. The
 -- promises say what these definitions mean.
 use Rattle.answer.specs.Theorem.{LongInput}
+use Rattle.bymatrix.specs.Theorem.{MatrixColumns, MatrixIsSubstitution, EveryMatrix, MatricesAreInverse}
 use Rattle.card.specs.Theorem.{WrittenReadsBack, ReadIsWritten, OneMeaning, LongestCard, NarrowAsBefore}
 use Rattle.runs.specs.OverC.{ValuesFollow}
 use Rattle.finder.specs.Rounds.{RoundsDecide, OneTower}
@@ -30,6 +31,7 @@ use Rattle.promises.specs.CardExamples.{CardExamples}
 use Rattle.promises.specs.Examples.{Examples}
 use Rattle.promises.specs.LedgerExamples.{LedgerExamples}
 use Rattle.promises.specs.MapsExamples.{MapsExamples}
+use Rattle.promises.specs.MatrixExamples.{MatrixExamples}
 use Rattle.promises.specs.OpenTableExamples.{OpenTableExamples}
 use Rattle.promises.specs.SheetExamples.{SheetExamples}
 use Rattle.promises.specs.TowerExamples.{TowerExamples}
@@ -120,6 +122,14 @@ pub record Promises : Type 0 where
   pub end-closes : EndCloses
   pub clear-drops : ClearDrops
   pub open-table-examples : OpenTableExamples
+  -- Conversion by matrix, request S-10 (bymatrix/specs/Theorem.antt): column j of the matrix is S^j; for every accepted pair and all lists, matrix and substitution give equal
+  -- numbers and equal lists, forward and back; by any matrix the k-th group of the image is the matrix times the k-th group; the two matrices multiply to the identity
+  -- both ways; those of A and B computed (specs/MatrixExamples.antt)
+  pub matrix-columns : MatrixColumns
+  pub matrix-is-substitution : MatrixIsSubstitution
+  pub every-matrix : EveryMatrix
+  pub matrices-are-inverse : MatricesAreInverse
+  pub matrix-examples : MatrixExamples
   -- Over C (runs/specs/OverC.antt): every list of calls makes of a new value one that is taken for the session that it makes of a new session
   pub values-follow : ValuesFollow
   -- Small fields by hand, A to I (specs/Examples.antt)
