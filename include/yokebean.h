@@ -8,8 +8,8 @@
  * that a session call gives back the session it took:
  *    1  p is below 2, above 1,048,575 or not prime
  *    2  n is not 1 to 16
- *    3  a list of coefficients, read or written, or the output list of a card, sheet or report has the wrong length
- *    4  a coefficient is p or more
+ *    3  a list of coefficients or a matrix, read or written, or the output list of a card, sheet or report has the wrong length
+ *    4  a coefficient or a word of a matrix is p or more
  *    5  n neither divides p - 1 nor is p^k with k >= 1
  *    6  T1, or T where a call has one modulus, has a monic divisor of degree 1 to n - 1
  *    7  T2 has one
@@ -63,6 +63,25 @@ uint32_t yokebean_check(uint32_t p, uint32_t n, const uint32_t *t1, size_t t1_le
  * words, in ascending order, where coefficients are compared from the highest power down. out has n*n words. 1, 2, 3, 4, 6, 7, 8. */
 uint32_t yokebean_maps(uint32_t p, uint32_t n, const uint32_t *t1, size_t t1_len, const uint32_t *t2, size_t t2_len,
                        const uint32_t *s, size_t s_len, const uint32_t *r, size_t r_len, uint32_t *out, size_t out_len);
+
+/* The matrices of the two maps, from a pair that the checker accepts: forward gets that of u -> u(S) mod T2, whose columns are the powers S^0 to
+ * S^(n-1) mod T2, and back that of u -> u(R) mod T1, whose columns are the powers R^0 to R^(n-1) mod T1. Each has n*n words, row after row: word
+ * i*n + j is coefficient i of the j-th power. They multiply to the identity both ways. The matrices of source document 004 (Kern and Mignotte),
+ * polynomials in the companion matrix of T, are not these but those of multiplication, u -> u*S mod T, with the columns S, X*S, ..., X^(n-1)*S.
+ * In example A, p = 3, T1 = [1, 0], T2 = [2, 1], S = R = [1, 2], written row / row:
+ *    forward                            1 1 / 0 2, with the columns 1 and S mod T2
+ *    back                               1 1 / 0 2, with the columns 1 and R mod T1
+ *    of multiplication by S modulo T2   1 2 / 2 2, with the columns S and X*S mod T2
+ * 1, 2, 3, 4, 6, 7, 8. */
+uint32_t yokebean_matrices(uint32_t p, uint32_t n, const uint32_t *t1, size_t t1_len, const uint32_t *t2, size_t t2_len,
+                           const uint32_t *s, size_t s_len, const uint32_t *r, size_t r_len,
+                           uint32_t *forward, size_t forward_len, uint32_t *back, size_t back_len);
+
+/* Converts a table by a matrix, group of n words by group: matrix times group, modulo p. The matrix may be any of n*n words below p, row after row. By
+ * the matrices of a pair it writes what yokebean_session_forward and yokebean_session_back write for that pair; it has no ledger. With an empty table
+ * too, the matrix's words must be below p. 1, 2, 3, 9, 10, 4. */
+uint32_t yokebean_matrix_convert(uint32_t p, uint32_t n, const uint32_t *matrix, size_t matrix_len, const uint32_t *table, size_t table_len,
+                                 uint32_t *out, size_t out_len);
 
 /* The printed sheet of a pair that the checker accepts: T1, T2, S and R, each starting a line with its name in 3 columns; coefficients follow,
  * constant first, eight to a line, right-justified in 7 columns; continued lines begin with 3 blanks, and every line is filled with blanks to
