@@ -1,6 +1,6 @@
-//! Isomorphisms of finite fields: test a modulus, check a pair, list all maps, find a pair, convert tables through it, whole or in parts. Each
-//! function passes its slices on to the proved call of the same name in include/yokebean.h, which `rt staticlib capi` builds; none of them panics,
-//! and a refused call leaves every slice as it was.
+//! Isomorphisms of finite fields: test a modulus, check a pair, list all maps, find a pair, convert tables through it, whole or in parts, or by the
+//! matrix of a map. Each function passes its slices on to the proved call of the same name in include/yokebean.h, which `rt staticlib capi` builds;
+//! none of them panics, and a refused call leaves every slice as it was.
 //!
 //! A model is a prime p up to 1,048,575, a degree n from 1 to 16 and a monic modulus of degree n; its n lower words are passed, constant first.
 //! A residue is n words below p, in the same order.
@@ -148,6 +148,87 @@ pub fn maps(size: Size, t1: &[u32], t2: &[u32], s: &[u32], r: &[u32], out: &mut 
             out.as_mut_ptr(),
             out.len(),
         )
+    };
+    answer(number, ())
+}
+
+/// The matrices of the two maps, from a pair that the checker accepts: `forward` gets that of u ↦ u(S) mod T2, whose columns are the powers
+/// S⁰ to S^(n−1) mod T2, and `back` that of u ↦ u(R) mod T1, whose columns are the powers of R. Each has n·n words, row after row: word i·n + j is
+/// coefficient i of the j-th power. They multiply to the identity both ways. Refusals 1, 2, 3, 4, 6, 7, 8.
+///
+/// ```
+/// use yokebean::{matrices, Refusal, Size};
+///
+/// let (size, t1, t2, s, r) = (Size { p: 7, n: 3 }, [5, 0, 0], [4, 0, 0], [0, 0, 2], [0, 0, 3]);
+/// let (mut forward, mut back) = ([0; 9], [0; 9]);
+/// matrices(size, &t1, &t2, &s, &r, &mut forward, &mut back)?;
+/// assert_eq!(forward, [1, 0, 0, 0, 0, 5, 0, 2, 0]); // the columns 1, S = 2X² and S² = 4X⁴ = 5X
+/// assert_eq!(back, [1, 0, 0, 0, 0, 4, 0, 3, 0]); // the columns 1, R = 3X² and R² = 2X⁴ = 4X
+///
+/// // of a pair that the checker refuses, and with an output list that is too short, neither list is written
+/// let (mut forward, mut back) = ([9; 9], [9; 9]);
+/// assert_eq!(matrices(size, &t1, &t2, &r, &s, &mut forward, &mut back), Err(Refusal::Congruence));
+/// assert_eq!(matrices(size, &t1, &t2, &s, &r, &mut forward, &mut back[..8]), Err(Refusal::Length));
+/// assert_eq!((forward, back), ([9; 9], [9; 9]));
+/// # Ok::<(), Refusal>(())
+/// ```
+pub fn matrices(size: Size, t1: &[u32], t2: &[u32], s: &[u32], r: &[u32], forward: &mut [u32], back: &mut [u32]) -> Result<(), Refusal> {
+    let Size { p, n } = size;
+    let number = unsafe {
+        raw::yokebean_matrices(
+            p,
+            n,
+            t1.as_ptr(),
+            t1.len(),
+            t2.as_ptr(),
+            t2.len(),
+            s.as_ptr(),
+            s.len(),
+            r.as_ptr(),
+            r.len(),
+            forward.as_mut_ptr(),
+            forward.len(),
+            back.as_mut_ptr(),
+            back.len(),
+        )
+    };
+    answer(number, ())
+}
+
+/// Converts a table by a matrix, group of n words by group: matrix times group, modulo p. The matrix may be any of n·n words below p, row after row.
+/// By the [`matrices`] of a pair it writes what [`Session::forward`] and [`Session::back`] write for that pair; it has no ledger. With an empty
+/// table too, the matrix's words must be below p. Refusals 1, 2, 3, 9, 10, 4.
+///
+/// ```
+/// use yokebean::{find, matrices, matrix_convert, Refusal, Size};
+///
+/// let (size, t1, t2) = (Size { p: 7, n: 3 }, [5, 0, 0], [4, 0, 0]);
+/// let (mut s, mut r, mut forward, mut back) = ([0; 3], [0; 3], [0; 9], [0; 9]);
+/// find(size, &t1, &t2, &mut s, &mut r)?;
+/// matrices(size, &t1, &t2, &s, &r, &mut forward, &mut back)?;
+/// // the matrices are worked out once for all tables
+/// for table in [[1, 2, 3, 0, 1, 0], [6, 0, 0, 0, 0, 1]] {
+///     let (mut image, mut again) = ([0; 6], [0; 6]);
+///     matrix_convert(size, &forward, &table, &mut image)?;
+///     matrix_convert(size, &back, &image, &mut again)?;
+///     assert_eq!(again, table);
+/// }
+///
+/// // any matrix, here one with two equal rows
+/// let mut image = [0; 2];
+/// matrix_convert(Size { p: 3, n: 2 }, &[1, 2, 1, 2], &[2, 1], &mut image)?;
+/// assert_eq!(image, [1, 1]);
+/// assert_eq!(matrix_convert(Size { p: 3, n: 2 }, &[1, 2, 1, 3], &[], &mut []), Err(Refusal::Word));
+/// assert_eq!(matrix_convert(Size { p: 3, n: 2 }, &[1, 2, 1], &[2, 1], &mut image), Err(Refusal::Length));
+/// assert_eq!(matrix_convert(Size { p: 3, n: 2 }, &[1, 2, 1, 2], &[2], &mut image), Err(Refusal::TableLength));
+/// assert_eq!(matrix_convert(Size { p: 3, n: 2 }, &[1, 2, 1, 2], &[], &mut image), Err(Refusal::OutputLength));
+/// assert_eq!(image, [1, 1]);
+/// # Ok::<(), Refusal>(())
+/// ```
+pub fn matrix_convert(size: Size, matrix: &[u32], table: &[u32], out: &mut [u32]) -> Result<(), Refusal> {
+    let Size { p, n } = size;
+    let number = unsafe {
+        raw::yokebean_matrix_convert(p, n, matrix.as_ptr(), matrix.len(), table.as_ptr(), table.len(), out.as_mut_ptr(), out.len())
     };
     answer(number, ())
 }

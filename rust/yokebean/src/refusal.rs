@@ -58,8 +58,8 @@ macro_rules! refusals {
 refusals! {
     1 NotPrime "p is below 2, above 1,048,575 or not prime"
     2 Degree "n is not 1 to 16"
-    3 Length "a list of coefficients, read or written, or the output list of a card, sheet or report has the wrong length"
-    4 Word "a coefficient is p or more"
+    3 Length "a list of coefficients or a matrix, read or written, or the output list of a card, sheet or report has the wrong length"
+    4 Word "a coefficient or a word of a matrix is p or more"
     5 DegreeDoesNotDivide "n neither divides p − 1 nor is p^k with k ≥ 1"
     6 FirstModulusFactors "T1, or T where a call has one modulus, has a monic divisor of degree 1 to n − 1"
     7 SecondModulusFactors "T2 has a monic divisor of degree 1 to n − 1"
