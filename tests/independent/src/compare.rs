@@ -6,7 +6,9 @@ pub mod earlier;
 mod known;
 pub mod limits;
 pub mod maps;
+pub mod matrices;
 pub mod moduli;
+mod order;
 pub mod pairs;
 pub mod powers;
 pub mod program;
@@ -20,7 +22,7 @@ use std::collections::BTreeMap;
 use std::fmt::Debug;
 
 /// The numbers that a call can give. Each must have occurred with it.
-const NUMBERS: [(&str, &[u32]); 31] = [
+const NUMBERS: [(&str, &[u32]); 34] = [
     ("every_p", &[1, 2]),
     ("product", &[0, 1, 2, 3, 4]),
     ("power", &[0, 1, 2, 3, 4]),
@@ -28,6 +30,9 @@ const NUMBERS: [(&str, &[u32]); 31] = [
     ("irreducible", &[0, 1, 2, 3, 4, 6]),
     ("check", &[0, 1, 2, 3, 4, 6, 7, 8]),
     ("maps", &[0, 1, 2, 3, 4, 6, 7, 8]),
+    ("matrices", &[0, 1, 2, 3, 4, 6, 7, 8]),
+    ("matrix_convert", &[0, 1, 2, 3, 9, 10, 4]),
+    ("matrix_as_session", &[0]),
     ("sheet", &[0, 1, 2, 3, 4, 6, 7, 8]),
     ("find", &[0, 1, 2, 3, 4, 5, 6, 7]),
     ("exchanged", &[0]),

@@ -1,8 +1,8 @@
 //! Document 01, and of document 02 the requests that have landed, in plain Rust: what the calls must answer, written from the documents and by other
 //! methods than the proved code's. Polynomials are multiplied out and divided with remainder; divisors are found by trial division, or by greatest
 //! common divisors where there are too many to try; the finder's values come from sums over conjugates (Lagrange resolvents, Hilbert's Theorem 90
-//! for sums), without solving linear systems; all maps of a pair are found by trying every residue, or are powers of S, sorted; cards are strings of
-//! bits.
+//! for sums), without solving linear systems; all maps of a pair are found by trying every residue, or are powers of S, sorted; each column of a
+//! matrix is a power by itself; cards are strings of bits.
 
 pub mod card;
 pub mod divisor;
@@ -12,6 +12,7 @@ pub mod finder;
 pub mod held;
 mod kept;
 pub mod maps;
+pub mod matrix;
 pub mod model;
 pub mod polynomial;
 pub mod session;
@@ -46,6 +47,11 @@ pub fn list_number(p: u32, n: u32, read: &[&[u32]], lent: &[&[u32]]) -> u32 {
     } else {
         0
     }
+}
+
+/// Refusal 3, or 0, of lists that must have n·n words.
+pub fn square_number(n: u32, lists: &[&[u32]]) -> u32 {
+    u32::from(lists.iter().any(|list| list.len() as u64 != u64::from(n) * u64::from(n))) * 3
 }
 
 /// The first that applies among 1 to 4.
@@ -85,6 +91,12 @@ pub fn pair_number(p: u32, t1: &[u32], t2: &[u32], s: &[u32], r: &[u32]) -> u32 
 
 pub fn check(p: u32, n: u32, t1: &[u32], t2: &[u32], s: &[u32], r: &[u32]) -> u32 {
     first(&[&|| number(p, n, &[t1, t2, s, r], &[]), &|| pair_number(p, t1, t2, s, r)])
+}
+
+/// The checker's numbers for a call that writes lists of n·n words.
+pub fn check_with_squares(p: u32, n: u32, lists: [&[u32]; 4], lent: &[&[u32]]) -> u32 {
+    let [t1, t2, s, r] = lists;
+    first(&[&|| model_number(p, n), &|| square_number(n, lent), &|| check(p, n, t1, t2, s, r)])
 }
 
 /// The test of one modulus.

@@ -1,9 +1,9 @@
 //! Examples A to J of document 01, D as request S-6, F as request S-3 and J as request S-9 has it, the report, the sheet and the maps of A, degrees
-//! that are powers of p, a table in parts under A while D waits, and wide cards, on the independent implementation itself.
+//! that are powers of p, a table in parts under A while D waits, the matrices of A and D, and wide cards, on the independent implementation itself.
 
 use crate::document::eigenvector::zeta_and_a;
 use crate::document::finder::{self, method, Method};
-use crate::document::{self, card, earlier, is_prime, maps, model::Model, session::Session, sheet, tower};
+use crate::document::{self, card, earlier, is_prime, maps, matrix, model::Model, session::Session, sheet, tower};
 
 /// A modulus for p = 2, a and α of each round, and P.
 type Tower = (&'static [u32], &'static [[&'static [u32]; 2]], &'static [u32]);
@@ -56,6 +56,18 @@ fn table_holds() {
     assert_eq!(table.clear(), Session::new());
 }
 
+/// The matrices of A and of D, which convert as the sessions of A and D do.
+fn matrices_hold() {
+    let a = matrix::matrices(3, 2, [&[1, 0], &[2, 1], &[1, 2], &[1, 2]], [&[9; 4]; 2]);
+    assert_eq!(a, (0, [vec![1, 1, 0, 2], vec![1, 1, 0, 2]]));
+    assert_eq!(matrix::convert(3, 2, &a.1[0], &[1, 1, 0, 2], &[9; 4]), (0, vec![2, 2, 2, 1]));
+    let d = matrix::matrices(7, 3, [&[5, 0, 0], &[4, 0, 0], &[0, 0, 2], &[0, 0, 3]], [&[9; 9]; 2]);
+    assert_eq!(d, (0, [vec![1, 0, 0, 0, 0, 5, 0, 2, 0], vec![1, 0, 0, 0, 0, 4, 0, 3, 0]]));
+    assert_eq!(matrix::convert(7, 3, &d.1[0], &[1, 2, 3], &[9; 3]), (0, vec![1, 1, 4]));
+    assert_eq!(matrix::convert(7, 3, &d.1[1], &[1, 1, 4], &[9; 3]), (0, vec![1, 2, 3]));
+    assert_eq!([&[7, 0, 0, 0][..], &[1; 3]].map(|m| matrix::convert(7, 2, m, &[], &[]).0), [4, 3]);
+}
+
 /// A wide card of the smallest p, with T1 = X + 1 and T2 = X + 65,536 in 17 bits each, and the same header with p = 17; what is too short for it; and
 /// how long cards are.
 fn wide_cards_hold() {
@@ -71,6 +83,7 @@ fn wide_cards_hold() {
 pub fn hold() {
     towers_hold();
     table_holds();
+    matrices_hold();
     wide_cards_hold();
     let pair = finder::pair(3, &[1, 0], &[2, 1]);
     assert_eq!((zeta_and_a(3, 2), &pair.alpha1[..], &pair.alpha2[..]), ((2, 2), &[0, 1][..], &[1, 2][..]));

@@ -19,7 +19,7 @@ impl Known {
 }
 
 /// One word of S or R becomes another; S and R determine each other, so a congruence fails.
-fn changed_word(random: &mut Random, case: &Case) -> Case {
+pub fn changed_word(random: &mut Random, case: &Case) -> Case {
     let (mut case, p) = (case.clone(), u64::from(case.p));
     let list = if random.once_in(2) { &mut case.s } else { &mut case.r };
     let place = random.below(list.len() as u64) as usize;
@@ -70,18 +70,19 @@ fn over_ring(random: &mut Random, p: u32, n: u32, field: &[u32], ring: &[u32]) -
     ]
 }
 
-/// A case of every sort for each n and several p.
-pub fn draw_all(random: &mut Random) -> Vec<Known> {
-    let mut cases = Vec::new();
-    for p in [2, 3, 5, 251, 65_521, 1_048_573] {
-        for n in 1..=16 {
-            let field = random.modulus(p, n, false);
-            cases.extend(over_field(random, p, n, &field));
-            if n > 1 {
-                let ring = random.modulus(p, n, true);
-                cases.extend(over_ring(random, p, n, &field, &ring));
-            }
-        }
+/// A case of every sort.
+pub fn draw_size(random: &mut Random, p: u32, n: u32) -> Vec<Known> {
+    let field = random.modulus(p, n, false);
+    let mut cases = over_field(random, p, n, &field);
+    if n > 1 {
+        let ring = random.modulus(p, n, true);
+        cases.extend(over_ring(random, p, n, &field, &ring));
     }
     cases
+}
+
+/// A case of every sort for each n and several p.
+pub fn draw_all(random: &mut Random) -> Vec<Known> {
+    let sizes = [2, 3, 5, 251, 65_521, 1_048_573].into_iter().flat_map(|p| (1..=16).map(move |n| (p, n)));
+    sizes.flat_map(|(p, n)| draw_size(random, p, n)).collect()
 }

@@ -3,7 +3,7 @@
 use super::Tally;
 use crate::document::card::card_length;
 use crate::library::{self, number};
-use yokebean::{check, find, irreducible, maps, power, product, sheet, sheet_length, substitute, Card, Size};
+use yokebean::{check, find, irreducible, maps, matrices, matrix_convert, power, product, sheet, sheet_length, substitute, Card, Size};
 
 /// One more than the largest p.
 const END: usize = 1 << 20;
@@ -36,14 +36,17 @@ fn out(n: u32) -> Vec<u32> {
     vec![0; n as usize]
 }
 
-/// Each call that takes p and n, and how many lists of n words it reads; the lists that it writes have their right length.
-const CALLS: [(&str, usize, Call); 10] = [
+/// Each call that takes p and n, and how many lists of n words it reads, the rows of a matrix being one; the lists that it writes have their right
+/// length.
+const CALLS: [(&str, usize, Call); 12] = [
     ("product", 3, |size, [t, u, v, _]| number(product(size, t, u, v, &mut out(size.n)))),
     ("power", 2, |size, [t, u, ..]| number(power(size, t, u, 5, &mut out(size.n)))),
     ("substitute", 3, |size, [t, s, u, _]| number(substitute(size, t, s, u, &mut out(size.n)))),
     ("irreducible", 1, |size, [t, ..]| number(irreducible(size, t))),
     ("check", 4, |size, [t1, t2, s, r]| number(check(size, t1, t2, s, r))),
     ("maps", 4, |size, [t1, t2, s, r]| number(maps(size, t1, t2, s, r, &mut out(size.n * size.n)))),
+    ("matrices", 4, |size, [t1, t2, s, r]| number(matrices(size, t1, t2, s, r, &mut out(size.n * size.n), &mut out(size.n * size.n)))),
+    ("matrix_convert", 2, |size, [row, u, ..]| number(matrix_convert(size, &row.repeat(size.n as usize), u, &mut out(size.n)))),
     ("sheet", 4, |size, [t1, t2, s, r]| number(sheet(size, t1, t2, s, r, &mut vec![0; sheet_length(size.n)]))),
     ("find", 2, |size, [t1, t2, ..]| number(find(size, t1, t2, &mut out(size.n), &mut out(size.n)))),
     ("session_load", 2, |size, [t1, t2, ..]| library::load(library::new(), size.p, size.n, t1, t2).number),

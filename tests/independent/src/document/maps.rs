@@ -1,8 +1,8 @@
 //! All the maps of request S-5: every residue is tried where there are not too many; else they are the conjugates of S, sorted.
 
+use super::check_with_squares;
 use super::model::{Model, Residue};
 use super::polynomial::all_lists;
-use super::{first, list_number, model_number, pair_number};
 
 /// Every residue is tried where there are up to so many.
 pub const TRIALS: u64 = 4_096;
@@ -32,10 +32,8 @@ fn all_maps(p: u32, t1: &[u32], t2: &[u32], s: &[u32]) -> Vec<Residue> {
 
 /// The number, and what the output list holds after the call.
 pub fn maps(p: u32, n: u32, lists: [&[u32]; 4], out: &[u32]) -> (u32, Vec<u32>) {
-    let [t1, t2, s, r] = lists;
-    let wrong_length = || u32::from(out.len() as u64 != u64::from(n) * u64::from(n)) * 3;
-    match first(&[&|| model_number(p, n), &wrong_length, &|| list_number(p, n, &lists, &[]), &|| pair_number(p, t1, t2, s, r)]) {
-        0 => (0, all_maps(p, t1, t2, s).concat()),
+    match check_with_squares(p, n, lists, &[out]) {
+        0 => (0, all_maps(p, lists[0], lists[1], lists[2]).concat()),
         refusal => (refusal, out.to_vec()),
     }
 }
