@@ -1,11 +1,11 @@
 /* Compares the answers of our library with those of PARI, FLINT, NTL and plain C on the inputs of every row, and then, unless called with
- * --check, times the rows and prints the table. Moduli and residues are a few kilobytes for all jobs of a row; a table of 16,384 words is
+ * --check, times the rows and prints the tables. Moduli and residues are a few kilobytes for all jobs of a row; a table of 16,384 words is
  * 64 KiB in and 64 KiB out, and was read and written in the job before. */
 #include "rows.h"
 #include <stdio.h>
 #include <string.h>
 
-const peer *const peers[PEERS] = {&ours, &pari, &flint, &ntl, &plain, &plain_card};
+const peer *const peers[PEERS] = {&ours, &session, &pari, &flint, &flint_columns, &ntl, &plain, &plain_card};
 
 int does(const peer *who, int what, uint32_t n) {
     const work *w = &who->works[what];
@@ -43,6 +43,12 @@ static const row rows[] = {
     {"MAPS", MAPS, 7, 3},
     {"MAPS", MAPS, 65521, 4},
     {"MAPS", MAPS, 65521, 16},
+    {"MATRICES", MATRICES, 7, 3},
+    {"MATRICES", MATRICES, 65521, 2},
+    {"MATRICES", MATRICES, 65521, 4},
+    {"MATRICES", MATRICES, 65521, 8},
+    {"MATRICES", MATRICES, 65521, 16},
+    {"MATRICES", MATRICES, 1048573, 14},
     {"IRREDUCIBLE", IRREDUCIBLE, 3, 2},
     {"IRREDUCIBLE", IRREDUCIBLE, 7, 3},
     {"IRREDUCIBLE", IRREDUCIBLE, 251, 10},
@@ -68,23 +74,61 @@ static const row rows[] = {
     {"write a card", WRITE, 65521, 16},
     {"write a card", WRITE, 1048433, 16},
 };
-enum { ROWS = sizeof rows / sizeof *rows };
 
-int main(int count, char **arguments) {
+/* The sizes of the rows CONVERT. */
+static const row by_matrix[] = {
+    {"BY MATRIX", BY_MATRIX, 65521, 2},
+    {"BY MATRIX", BY_MATRIX, 65521, 4},
+    {"BY MATRIX", BY_MATRIX, 65521, 8},
+    {"BY MATRIX", BY_MATRIX, 65521, 16},
+    {"BY MATRIX", BY_MATRIX, 1048573, 2},
+    {"BY MATRIX", BY_MATRIX, 1048573, 4},
+    {"BY MATRIX", BY_MATRIX, 1048573, 14},
+    {"BY MATRIX one residue", BY_MATRIX, 65521, 2, .single = 1},
+    {"BY MATRIX one residue", BY_MATRIX, 65521, 16, .single = 1},
+};
+
+static const struct {
+    const char *columns[PEERS];
+    const row *rows;
+    size_t count;
+} tables[] = {
+    {{"PARI", "FLINT", "NTL", "plain C"}, rows, sizeof rows / sizeof *rows},
+    {{"session", "FLINT", "FLINT columns", "NTL", "plain C"}, by_matrix, sizeof by_matrix / sizeof *by_matrix},
+};
+enum { TABLES = sizeof tables / sizeof *tables };
+
+static size_t compare_rows(const row *first, size_t count) {
     static inputs in;
-    times all[PEERS];
-    for (size_t i = 0; i < ROWS; i++) {
-        choose(&rows[i], &in);
+    for (const row *r = first; r < first + count; r++) {
+        choose(r, &in);
         compare(&in);
     }
+    return count;
+}
+
+static void print_times(const char *const *columns, const row *first, size_t count) {
+    static inputs in;
+    times all[PEERS];
+    print_header(columns);
+    for (const row *r = first; r < first + count; r++) {
+        choose(r, &in);
+        print_row(columns, r, all, time_row(r, &in, all));
+    }
+}
+
+int main(int count, char **arguments) {
+    size_t compared = 0;
+    for (size_t t = 0; t < TABLES; t++)
+        compared += compare_rows(tables[t].rows, tables[t].count);
     if (count == 2 && !strcmp(arguments[1], "--check")) {
-        printf("benchmark: all answers agree in %d rows\n", ROWS);
+        printf("benchmark: all answers agree in %zu rows\n", compared);
         return 0;
     }
-    print_header();
-    for (size_t i = 0; i < ROWS; i++) {
-        choose(&rows[i], &in);
-        print_row(&rows[i], all, time_row(&rows[i], &in, all));
+    for (size_t t = 0; t < TABLES; t++) {
+        if (t)
+            printf("\n");
+        print_times(tables[t].columns, tables[t].rows, tables[t].count);
     }
     return 0;
 }

@@ -7,8 +7,8 @@
 #include <stdlib.h>
 #include <string.h>
 
-static const char *const names[WORKS] = {"FIND",       "CHECK",       "IRREDUCIBLE",  "MAPS",  "CONVERT", "product", "power",
-                                         "substitute", "read a card", "write a card", "power", "power"};
+static const char *const names[WORKS] = {"FIND",    "CHECK", "IRREDUCIBLE", "MAPS",        "MATRICES",     "CONVERT", "BY MATRIX",
+                                         "product", "power", "substitute",  "read a card", "write a card", "power",   "power"};
 
 static void fail(const inputs *in, int what, size_t k, const char *why, ...) {
     va_list rest;

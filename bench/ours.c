@@ -1,13 +1,15 @@
-/* Our calls, each as a user makes it: a session holds the pair that converts, all else is passed with each call and tested there. */
+/* Our calls, each as a user makes it: a session holds the pair that converts, and a matrix was built before a table is converted by it; all else is
+ * passed with each call and tested there. */
 #include "peers.h"
 #include "yokebean.h"
 #include <string.h>
 
 static const inputs *in;
 static uint32_t p, n, number;
-static yokebean_session session[MOST_JOBS];
+static yokebean_session paired[MOST_JOBS];
+static uint32_t forward[MOST_JOBS][LARGEST_MATRIX], back[LARGEST_MATRIX];
 static yokebean_card card;
-static uint32_t value[2 * LARGEST_DEGREE], list[LARGEST_DEGREE * LARGEST_DEGREE], image[LARGEST_TABLE], words[CARD_WORDS];
+static uint32_t value[2 * LARGEST_DEGREE], list[2 * LARGEST_MATRIX], image[LARGEST_TABLE], words[CARD_WORDS];
 static uint8_t bytes[LARGEST_CARD];
 
 static void prepare(const inputs *given) {
@@ -15,7 +17,8 @@ static void prepare(const inputs *given) {
     for (size_t k = 0; k < in->jobs; k++) {
         const job *j = &in->job[k];
         yokebean_step step = yokebean_session_load(yokebean_session_new(), p, n, j->t1, n, j->t2, n);
-        session[k] = yokebean_session_propose(step.session, j->s, n, j->r, n).session;
+        paired[k] = yokebean_session_propose(step.session, j->s, n, j->r, n).session;
+        yokebean_matrices(p, n, j->t1, n, j->t2, n, j->s, n, j->r, n, forward[k], n * n, back, n * n);
     }
 }
 
@@ -36,7 +39,14 @@ static void maps(size_t k) {
     number = yokebean_maps(p, n, j->t1, n, j->t2, n, j->s, n, j->r, n, list, n * n);
 }
 
-static void convert(size_t k) { number = yokebean_session_forward(session[k], in->table, in->words, image, in->words).number; }
+static void matrices(size_t k) {
+    const job *j = &in->job[k];
+    number = yokebean_matrices(p, n, j->t1, n, j->t2, n, j->s, n, j->r, n, list, n * n, list + n * n, n * n);
+}
+
+static void convert(size_t k) { number = yokebean_session_forward(paired[k], in->table, in->words, image, in->words).number; }
+
+static void by_matrix(size_t k) { number = yokebean_matrix_convert(p, n, forward[k], n * n, in->table, in->words, image, in->words); }
 
 static void product(size_t k) {
     const job *j = &in->job[k];
@@ -77,6 +87,7 @@ static size_t accepted(uint32_t *out) {
 static size_t pair(uint32_t *out) { return given(value, 2 * n, out); }
 static size_t residue(uint32_t *out) { return given(value, n, out); }
 static size_t residues(uint32_t *out) { return given(list, n * n, out); }
+static size_t both(uint32_t *out) { return given(list, 2 * n * n, out); }
 static size_t table(uint32_t *out) { return given(image, in->words, out); }
 
 static size_t card_read(uint32_t *out) {
@@ -92,6 +103,9 @@ static size_t card_written(uint32_t *out) {
 
 const peer ours = {"ours", prepare, {
     [FIND] = {find, pair}, [CHECK] = {check, accepted}, [IRREDUCIBLE] = {irreducible, accepted}, [MAPS] = {maps, residues},
-    [CONVERT] = {convert, table}, [PRODUCT] = {product, residue}, [POWER] = {power, residue}, [SUBSTITUTE] = {substitute, residue},
-    [READ] = {read_card, card_read}, [WRITE] = {write_card, card_written}, [LONG] = {long_power, residue}, [SHORT] = {short_power, residue},
+    [MATRICES] = {matrices, both}, [CONVERT] = {convert, table}, [BY_MATRIX] = {by_matrix, table}, [PRODUCT] = {product, residue},
+    [POWER] = {power, residue}, [SUBSTITUTE] = {substitute, residue}, [READ] = {read_card, card_read},
+    [WRITE] = {write_card, card_written}, [LONG] = {long_power, residue}, [SHORT] = {short_power, residue},
 }};
+
+const peer session = {"session", prepare, {[BY_MATRIX] = {convert, table}}};

@@ -1,5 +1,6 @@
 /* FLINT: for each work the call that is fastest at its size, which from degree 8 is the one with a prepared inverse; a table is converted by
- * nmod_mat_mul, the table times the matrix of the powers of S; a modulus is tested by FLINT's default, the degrees of its factors, and at the
+ * nmod_mat_mul, the table times the matrix of the powers of S, or that matrix, transposed, times the table with a residue in each column; the powers
+ * of S and R go into the rows of two matrices, with a prepared inverse; a modulus is tested by FLINT's default, the degrees of its factors, and at the
  * smallest sizes by Rabin's test; the maps are the roots of T1 in the field of T2, by fq_nmod_poly_roots, which takes 0.5 ms in degree 4 and
  * 70 ms in degree 16. */
 #include "peers.h"
@@ -13,14 +14,14 @@ enum { PREPARED_FROM = 8 /* n */, RABIN_BELOW = 22 /* p·n */, ROOTS_UP_TO = 4 /
 
 typedef struct {
     nmod_poly_t t1, t2, inverse1, inverse2, s, r, u, v, x1, x2;
-    nmod_mat_t powers;
+    nmod_mat_t powers, transposed;
     fq_nmod_ctx_t field;
     fq_nmod_poly_t t1_over_field;
     fq_nmod_poly_factor_t roots;
 } forms;
 
 static forms form[MOST_JOBS];
-static nmod_mat_t table, image;
+static nmod_mat_t table, image, columns, columns_image, forward, back;
 static nmod_poly_t value;
 static const forms *solved;
 static int right;
@@ -55,6 +56,8 @@ static void set_powers(forms *f) {
             nmod_mat_entry(f->powers, k, i) = nmod_poly_get_coeff_ui(value, i);
         nmod_poly_mulmod(value, value, f->s, f->t2);
     }
+    nmod_mat_init(f->transposed, n, n, p);
+    nmod_mat_transpose(f->transposed, f->powers);
 }
 
 static void set_field(forms *f) {
@@ -67,11 +70,13 @@ static void clear(void) {
     for (forms *f = form; f < form + jobs; f++) {
         nmod_poly_clear(f->t1), nmod_poly_clear(f->t2), nmod_poly_clear(f->inverse1), nmod_poly_clear(f->inverse2);
         nmod_poly_clear(f->s), nmod_poly_clear(f->r), nmod_poly_clear(f->u), nmod_poly_clear(f->v);
-        nmod_poly_clear(f->x1), nmod_poly_clear(f->x2), nmod_mat_clear(f->powers);
+        nmod_poly_clear(f->x1), nmod_poly_clear(f->x2), nmod_mat_clear(f->powers), nmod_mat_clear(f->transposed);
         fq_nmod_poly_clear(f->t1_over_field, f->field), fq_nmod_poly_factor_clear(f->roots, f->field), fq_nmod_ctx_clear(f->field);
     }
-    if (jobs)
-        nmod_mat_clear(table), nmod_mat_clear(image), nmod_poly_clear(value);
+    if (jobs) {
+        nmod_mat_clear(table), nmod_mat_clear(image), nmod_mat_clear(columns), nmod_mat_clear(columns_image);
+        nmod_mat_clear(forward), nmod_mat_clear(back), nmod_poly_clear(value);
+    }
 }
 
 static void prepare(const inputs *in) {
@@ -93,6 +98,9 @@ static void prepare(const inputs *in) {
     for (slong g = 0; g < groups; g++)
         for (slong i = 0; i < n; i++)
             nmod_mat_entry(table, g, i) = in->table[g * n + i];
+    nmod_mat_init(columns, n, groups, p), nmod_mat_init(columns_image, n, groups, p);
+    nmod_mat_transpose(columns, table);
+    nmod_mat_init(forward, n, n, p), nmod_mat_init(back, n, n, p);
 }
 
 /* value := f(s) modulo t, where f has degree below n. */
@@ -126,7 +134,19 @@ static void maps(size_t k) {
     solved = f;
 }
 
+static void powers_in_rows(nmod_mat_t rows, const nmod_poly_t s, const nmod_poly_t t, const nmod_poly_t inverse) {
+    _nmod_poly_powers_mod_preinv_naive(rows->rows, s->coeffs, s->length, n, t->coeffs, t->length, inverse->coeffs, inverse->length, t->mod);
+}
+
+static void matrices(size_t k) {
+    const forms *f = &form[k];
+    check(k);
+    powers_in_rows(forward, f->s, f->t2, f->inverse2);
+    powers_in_rows(back, f->r, f->t1, f->inverse1);
+}
+
 static void convert(size_t k) { nmod_mat_mul(image, table, form[k].powers); }
+static void convert_columns(size_t k) { nmod_mat_mul(columns_image, form[k].transposed, columns); }
 
 static void product(size_t k) {
     const forms *f = &form[k];
@@ -167,11 +187,25 @@ static size_t residues(uint32_t *out) {
     return sorted(n, (size_t)all->num, out);
 }
 
+static size_t both(uint32_t *out) {
+    for (slong i = 0; i < n; i++)
+        for (slong j = 0; j < n; j++) {
+            out[i * n + j] = (uint32_t)nmod_mat_entry(forward, j, i);
+            out[(n + i) * n + j] = (uint32_t)nmod_mat_entry(back, j, i);
+        }
+    return right ? 2 * n * n : 0;
+}
+
 static size_t converted(uint32_t *out) {
     for (slong g = 0; g < image->r; g++)
         for (slong i = 0; i < n; i++)
             out[g * n + i] = (uint32_t)nmod_mat_entry(image, g, i);
     return (size_t)image->r * n;
+}
+
+static size_t converted_columns(uint32_t *out) {
+    nmod_mat_transpose(image, columns_image);
+    return converted(out);
 }
 
 static size_t accepted(uint32_t *out) {
@@ -181,5 +215,8 @@ static size_t accepted(uint32_t *out) {
 
 const peer flint = {"FLINT", prepare, {
     [CHECK] = {check, accepted}, [IRREDUCIBLE] = {irreducible, accepted}, [MAPS] = {maps, residues, ROOTS_UP_TO},
-    [CONVERT] = {convert, converted}, [PRODUCT] = {product, residue}, [POWER] = {power, residue}, [SUBSTITUTE] = {substitute, residue},
+    [MATRICES] = {matrices, both}, [CONVERT] = {convert, converted}, [BY_MATRIX] = {convert, converted}, [PRODUCT] = {product, residue},
+    [POWER] = {power, residue}, [SUBSTITUTE] = {substitute, residue},
 }};
+
+const peer flint_columns = {"FLINT columns", prepare, {[BY_MATRIX] = {convert_columns, converted_columns}}};

@@ -24,7 +24,7 @@ struct Forms {
 // All that depends on p, made anew for each p.
 struct Prepared {
     Forms form[MOST_JOBS];
-    mat_zz_p table, image;
+    mat_zz_p table, image, forward, back;
     zz_pX value;
     vec_zz_pE roots;
     bool right;
@@ -42,15 +42,17 @@ zz_pX polynomial(const uint32_t *words, long n, bool monic) {
     return f;
 }
 
-mat_zz_p powers_of(const zz_pX &s, const zz_pXModulus &modulus) {
+// Row k becomes s^k.
+void set_powers(mat_zz_p &powers, const zz_pX &s, const zz_pXModulus &modulus) {
     long n = deg(modulus);
-    mat_zz_p powers;
     powers.SetDims(n, n);
     zz_pX value(1);
-    for (long k = 0; k < n; k++, MulMod(value, value, s, modulus))
+    for (long k = 0; k < n; k++) {
+        if (k > 0)
+            MulMod(value, value, s, modulus);
         for (long i = 0; i < n; i++)
             powers[k][i] = coeff(value, i);
-    return powers;
+    }
 }
 
 void prepare(const inputs *in) {
@@ -68,7 +70,7 @@ void prepare(const inputs *in) {
         f.u = polynomial(j.u, n, false), f.v = polynomial(j.v, n, false);
         build(f.modulus1, f.t1), build(f.modulus2, f.t2);
         rem(f.x1, x, f.modulus1), rem(f.x2, x, f.modulus2);
-        f.powers = powers_of(f.s, f.modulus2);
+        set_powers(f.powers, f.s, f.modulus2);
         f.field = zz_pEContext(f.t2);
         f.field.restore();
         conv(f.t1_over_field, f.t1);
@@ -106,6 +108,13 @@ void maps(size_t k) {
     FindRoots(prepared->roots, f.t1_over_field);
 }
 
+void matrices(size_t k) {
+    const Forms &f = prepared->form[k];
+    check(k);
+    set_powers(prepared->forward, f.s, f.modulus2);
+    set_powers(prepared->back, f.r, f.modulus1);
+}
+
 void convert(size_t k) { mul(prepared->image, prepared->table, prepared->form[k].powers); }
 
 void product(size_t k) {
@@ -134,6 +143,16 @@ size_t residues(uint32_t *out) {
     return sorted(uint32_t(n), size_t(count), out);
 }
 
+size_t both(uint32_t *out) {
+    long n = prepared->n;
+    for (long i = 0; i < n; i++)
+        for (long j = 0; j < n; j++) {
+            out[i * n + j] = uint32_t(rep(prepared->forward[j][i]));
+            out[(n + i) * n + j] = uint32_t(rep(prepared->back[j][i]));
+        }
+    return prepared->right ? size_t(2 * n * n) : 0;
+}
+
 size_t converted(uint32_t *out) {
     long n = prepared->n, groups = prepared->image.NumRows();
     for (long g = 0; g < groups; g++)
@@ -153,6 +172,7 @@ const work none = {nullptr, nullptr};
 
 extern "C" const peer ntl = {"NTL", prepare, {
     /* FIND */ none, /* CHECK */ {check, accepted}, /* IRREDUCIBLE */ {irreducible, accepted}, /* MAPS */ {maps, residues, ROOTS_UP_TO},
-    /* CONVERT */ {convert, converted}, /* PRODUCT */ {product, residue}, /* POWER */ {power, residue}, /* SUBSTITUTE */ {substitute, residue},
-    /* READ */ none, /* WRITE */ none, /* LONG */ none, /* SHORT */ none,
+    /* MATRICES */ {matrices, both}, /* CONVERT */ {convert, converted}, /* BY_MATRIX */ {convert, converted}, /* PRODUCT */ {product, residue},
+    /* POWER */ {power, residue}, /* SUBSTITUTE */ {substitute, residue}, /* READ */ none, /* WRITE */ none, /* LONG */ none,
+    /* SHORT */ none,
 }};

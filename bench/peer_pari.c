@@ -1,6 +1,6 @@
 /* PARI: Flx_ffisom finds an isomorphism, Flxq_ffisom_inv its inverse; Flx_Flxq_eval substitutes; Flx_is_irred tests a modulus as
  * polisirreducible does, by the degrees of its factors, and Flx_rootsff finds the roots of T1 in the field of T2 as polrootsmod does, both without
- * conversions. Its prepared form of a modulus of these degrees is the modulus itself. */
+ * conversions; Flxq_matrix_pow gives the matrix of the powers. Its prepared form of a modulus of these degrees is the modulus itself. */
 #include "peers.h"
 #include <pari/pari.h>
 
@@ -73,6 +73,12 @@ static void maps(size_t k) {
     value = Flx_rootsff(t1[k], t2[k], p);
 }
 
+static void matrices(size_t k) {
+    check(k);
+    value = Flxq_matrix_pow(s[k], n, n, t2[k], p);
+    back = Flxq_matrix_pow(r[k], n, n, t1[k], p);
+}
+
 static void product(size_t k) {
     set_avma(prepared);
     value = Flxq_mul(u[k], v[k], t2[k], p);
@@ -110,6 +116,15 @@ static size_t residues(uint32_t *out) {
     return sorted(n, count, out);
 }
 
+static size_t both(uint32_t *out) {
+    for (uint32_t i = 0; i < n; i++)
+        for (uint32_t j = 0; j < n; j++) {
+            out[i * n + j] = (uint32_t)coeff(value, i + 1, j + 1);
+            out[(n + i) * n + j] = (uint32_t)coeff(back, i + 1, j + 1);
+        }
+    return right ? 2 * n * n : 0;
+}
+
 static size_t accepted(uint32_t *out) {
     *out = (uint32_t)right;
     return 1;
@@ -117,5 +132,5 @@ static size_t accepted(uint32_t *out) {
 
 const peer pari = {"PARI", prepare, {
     [FIND] = {find, pair}, [CHECK] = {check, accepted}, [IRREDUCIBLE] = {irreducible, accepted}, [MAPS] = {maps, residues},
-    [PRODUCT] = {product, residue}, [POWER] = {power, residue}, [SUBSTITUTE] = {substitute, residue},
+    [MATRICES] = {matrices, both}, [PRODUCT] = {product, residue}, [POWER] = {power, residue}, [SUBSTITUTE] = {substitute, residue},
 }};

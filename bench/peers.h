@@ -10,7 +10,7 @@
 extern "C" {
 #endif
 
-enum { MOST_JOBS = 16, LARGEST_DEGREE = 16, LARGEST_TABLE = 16384, LARGEST_CARD = 166, CARD_WORDS = 64 };
+enum { MOST_JOBS = 16, LARGEST_DEGREE = 16, LARGEST_MATRIX = 16 * 16, LARGEST_TABLE = 16384, LARGEST_CARD = 166, CARD_WORDS = 64 };
 
 /* What a residue is raised to: the first binary digits of the square root of 2 after its point, about half of them 1. */
 #define EXPONENT 0x6a09e667f3bcc909ull
@@ -35,7 +35,9 @@ typedef struct {
  *   CHECK        whether T1 and T2 are irreducible and the four congruences hold: 1 or 0
  *   IRREDUCIBLE  whether T1 is irreducible: 1 or 0
  *   MAPS         the n residues S' modulo T2 with T1(S') = 0, in ascending order
+ *   MATRICES     of an accepted pair, the matrix of the powers of S modulo T2, then that of the powers of R modulo T1, row after row
  *   CONVERT      the table's image
+ *   BY_MATRIX    the same, the matrix of the powers of S being ready
  *   PRODUCT      u·v modulo T2
  *   POWER        u^EXPONENT modulo T2
  *   SUBSTITUTE   u(S) modulo T2
@@ -43,7 +45,7 @@ typedef struct {
  *   WRITE        the bytes of a card
  *   LONG         u^(2^60) modulo T2
  *   SHORT        u^(2^12) modulo T2, which takes BETWEEN products fewer */
-enum { FIND, CHECK, IRREDUCIBLE, MAPS, CONVERT, PRODUCT, POWER, SUBSTITUTE, READ, WRITE, LONG, SHORT, WORKS };
+enum { FIND, CHECK, IRREDUCIBLE, MAPS, MATRICES, CONVERT, BY_MATRIX, PRODUCT, POWER, SUBSTITUTE, READ, WRITE, LONG, SHORT, WORKS };
 enum { BETWEEN = 60 - 12 };
 
 /* `run` does the work of the k-th job and keeps the answer in the peer's own form, where the compiler cannot tell that nobody reads it;
@@ -61,7 +63,8 @@ typedef struct {
     work works[WORKS];
 } peer;
 
-extern const peer ours, pari, flint, ntl, plain, plain_card;
+/* `session` is our session's conversion, and `flint_columns` FLINT with a residue in each column of its table, both beside a conversion by matrix. */
+extern const peer ours, session, pari, flint, flint_columns, ntl, plain, plain_card;
 
 /* PARI's test of X^n + t. */
 int is_irreducible(uint32_t p, uint32_t n, const uint32_t *t);

@@ -1,18 +1,21 @@
 /* Plain C: the product by Horner's rule on u64, the top word reduced in each step and all words at the end; power and substitution by such
- * products; the conversion of a table by the matrix of the powers of S, with sums of products in a u64 and one division for each word; the maps as
- * the conjugates of S, each from the one before by the matrix of the powers of X^p, sorted, without a test of the pair. */
+ * products; the conversion of a table by the matrix of the powers of S, with sums of products in a u64 and one division for each word, from a matrix
+ * of u64 or, where the matrix is given, of u32, row after row; the matrices by products, and the maps as the conjugates of S, each from the one before
+ * by the matrix of the powers of X^p, sorted, both without a test of the pair. */
 #include "peers.h"
 #include <string.h>
 
 typedef struct {
-    uint64_t t2[LARGEST_DEGREE], s[LARGEST_DEGREE], u[LARGEST_DEGREE], v[LARGEST_DEGREE], powers[LARGEST_DEGREE][LARGEST_DEGREE];
+    uint64_t t1[LARGEST_DEGREE], t2[LARGEST_DEGREE], s[LARGEST_DEGREE], r[LARGEST_DEGREE], u[LARGEST_DEGREE], v[LARGEST_DEGREE];
+    uint64_t powers[LARGEST_DEGREE][LARGEST_DEGREE];
+    uint32_t matrix[LARGEST_MATRIX];
 } forms;
 
 static uint64_t p;
 static size_t n, words;
 static forms form[MOST_JOBS];
 static uint64_t value[LARGEST_DEGREE];
-static uint32_t list[LARGEST_DEGREE * LARGEST_DEGREE], table[LARGEST_TABLE], image[LARGEST_TABLE];
+static uint32_t list[2 * LARGEST_MATRIX], table[LARGEST_TABLE], image[LARGEST_TABLE];
 
 static void multiply(const uint64_t *t, const uint64_t *u, const uint64_t *v, uint64_t *out) {
     uint64_t w[LARGEST_DEGREE] = {0};
@@ -34,6 +37,15 @@ static void set_powers(const uint64_t *t, const uint64_t *s, uint64_t rows[][LAR
         multiply(t, rows[i - 1], s, rows[i]);
 }
 
+/* Row after row, the matrix whose columns are the powers of s. */
+static void set_matrix(const uint64_t *t, const uint64_t *s, uint32_t *matrix) {
+    uint64_t rows[LARGEST_DEGREE][LARGEST_DEGREE];
+    set_powers(t, s, rows);
+    for (size_t i = 0; i < n; i++)
+        for (size_t j = 0; j < n; j++)
+            matrix[i * n + j] = (uint32_t)rows[j][i];
+}
+
 static void widen(const uint32_t *from, uint64_t *to) {
     for (size_t i = 0; i < n; i++)
         to[i] = from[i];
@@ -46,8 +58,9 @@ static void prepare(const inputs *in) {
     for (size_t k = 0; k < in->jobs; k++) {
         const job *j = &in->job[k];
         forms *f = &form[k];
-        widen(j->t2, f->t2), widen(j->s, f->s), widen(j->u, f->u), widen(j->v, f->v);
+        widen(j->t1, f->t1), widen(j->t2, f->t2), widen(j->s, f->s), widen(j->r, f->r), widen(j->u, f->u), widen(j->v, f->v);
         set_powers(f->t2, f->s, f->powers);
+        set_matrix(f->t2, f->s, f->matrix);
     }
 }
 
@@ -112,6 +125,12 @@ static void maps(size_t k) {
     }
 }
 
+static void matrices(size_t k) {
+    const forms *f = &form[k];
+    set_matrix(f->t2, f->s, list);
+    set_matrix(f->t1, f->r, list + n * n);
+}
+
 static void convert(size_t k) {
     const forms *f = &form[k];
     for (size_t g = 0; g < words; g += n)
@@ -119,6 +138,17 @@ static void convert(size_t k) {
             uint64_t sum = 0;
             for (size_t j = 0; j < n; j++)
                 sum += f->powers[j][i] * table[g + j];
+            image[g + i] = (uint32_t)(sum % p);
+        }
+}
+
+static void by_matrix(size_t k) {
+    const uint32_t *matrix = form[k].matrix;
+    for (size_t g = 0; g < words; g += n)
+        for (size_t i = 0; i < n; i++) {
+            uint64_t sum = 0;
+            for (size_t j = 0; j < n; j++)
+                sum += (uint64_t)matrix[i * n + j] * table[g + j];
             image[g + i] = (uint32_t)(sum % p);
         }
 }
@@ -134,12 +164,18 @@ static size_t residues(uint32_t *out) {
     return n * n;
 }
 
+static size_t both(uint32_t *out) {
+    memcpy(out, list, 2 * n * n * sizeof *out);
+    return 2 * n * n;
+}
+
 static size_t converted(uint32_t *out) {
     memcpy(out, image, words * sizeof *out);
     return words;
 }
 
 const peer plain = {"plain C", prepare, {
-    [MAPS] = {maps, residues}, [CONVERT] = {convert, converted}, [PRODUCT] = {product, residue}, [POWER] = {power, residue},
-    [SUBSTITUTE] = {substitute, residue}, [LONG] = {long_power, residue}, [SHORT] = {short_power, residue},
+    [MAPS] = {maps, residues}, [MATRICES] = {matrices, both}, [CONVERT] = {convert, converted}, [BY_MATRIX] = {by_matrix, converted},
+    [PRODUCT] = {product, residue}, [POWER] = {power, residue}, [SUBSTITUTE] = {substitute, residue},
+    [LONG] = {long_power, residue}, [SHORT] = {short_power, residue},
 }};

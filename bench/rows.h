@@ -1,4 +1,4 @@
-/* The rows of the benchmark's table, and what is done with one: its inputs are chosen, all answers compared, the works timed, the times printed. */
+/* The rows of the benchmark's tables, and what is done with one: its inputs are chosen, all answers compared, the works timed, the times printed. */
 #ifndef ROWS_H
 #define ROWS_H
 
@@ -19,7 +19,7 @@ typedef struct {
 } times;
 
 /* Our library comes first. */
-enum { PEERS = 6 };
+enum { PEERS = 8 };
 extern const peer *const peers[PEERS];
 
 /* Whether a peer does a work in degree n. */
@@ -29,7 +29,9 @@ void choose(const row *, inputs *);
 void choose_reducible(const inputs *, inputs *);
 void compare(const inputs *);
 size_t time_row(const row *, const inputs *, times *);
-void print_header(void);
-void print_row(const row *, const times *, size_t);
+
+/* The columns are the names of peers, with a null after the last. */
+void print_header(const char *const *columns);
+void print_row(const char *const *columns, const row *, const times *, size_t);
 
 #endif

@@ -1,10 +1,9 @@
-/* The table in Markdown: for each row our median and minimum in microseconds, and each peer's with the ratio of our median to the peer's. */
+/* The tables in Markdown: for each row our median and minimum in microseconds, and each peer's with the ratio of our median to the peer's. */
 #include "rows.h"
 #include <stdio.h>
 #include <string.h>
 
-static const char *const columns[] = {"PARI", "FLINT", "NTL", "plain C"};
-enum { COLUMNS = sizeof columns / sizeof *columns, WIDTH = 24 };
+enum { LABEL = 31, OWN = 15, WIDTH = 24 };
 
 /* Three digits that count. */
 static int show(char *out, size_t length, const times *t) {
@@ -16,23 +15,26 @@ static void show_ratio(char *out, size_t length, double ratio) {
     snprintf(out, length, " **%.*f**", ratio < 0.01 ? 4 : ratio < 0.1 ? 3 : ratio < 10 ? 2 : 1, ratio);
 }
 
-void print_header(void) {
-    printf("| %-29s | %-15s |", "work, p, n", ours.name);
-    for (size_t c = 0; c < COLUMNS; c++)
-        printf(" %-*s |", WIDTH, columns[c]);
-    printf("\n|---|---|---|---|---|---|\n");
+void print_header(const char *const *columns) {
+    printf("| %-*s | %-*s |", LABEL, "work, p, n", OWN, ours.name);
+    for (const char *const *column = columns; *column; column++)
+        printf(" %-*s |", WIDTH, *column);
+    printf("\n|---|---|");
+    for (const char *const *column = columns; *column; column++)
+        printf("---|");
+    printf("\n");
 }
 
-void print_row(const row *which, const times *all, size_t count) {
+void print_row(const char *const *columns, const row *which, const times *all, size_t count) {
     char cell[64];
     snprintf(cell, sizeof cell, "%s %u, %u", which->name, which->p, which->n);
-    printf("| %-29s |", cell);
+    printf("| %-*s |", LABEL, cell);
     show(cell, sizeof cell, &all[0]);
-    printf(" %-15s |", cell);
-    for (size_t c = 0; c < COLUMNS; c++) {
+    printf(" %-*s |", OWN, cell);
+    for (const char *const *column = columns; *column; column++) {
         *cell = 0;
         for (size_t i = 1; i < count; i++)
-            if (!strcmp(all[i].name, columns[c])) {
+            if (!strcmp(all[i].name, *column)) {
                 int used = show(cell, sizeof cell, &all[i]);
                 show_ratio(cell + used, sizeof cell - (size_t)used, all[0].median / all[i].median);
             }
