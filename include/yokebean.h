@@ -66,8 +66,9 @@ uint32_t yokebean_maps(uint32_t p, uint32_t n, const uint32_t *t1, size_t t1_len
 
 /* The matrices of the two maps, from a pair that the checker accepts: forward gets that of u -> u(S) mod T2, whose columns are the powers S^0 to
  * S^(n-1) mod T2, and back that of u -> u(R) mod T1, whose columns are the powers R^0 to R^(n-1) mod T1. Each has n*n words, row after row: word
- * i*n + j is coefficient i of the j-th power. They multiply to the identity both ways. The matrices of source document 004 (Kern and Mignotte),
- * polynomials in the companion matrix of T, are not these but those of multiplication, u -> u*S mod T, with the columns S, X*S, ..., X^(n-1)*S.
+ * i*n + j is coefficient i of S^j, or of R^j. They multiply to the identity modulo p both ways. The matrices of source document 004 (Kern and
+ * Mignotte), polynomials in the companion matrix of T, are not these but those of multiplication, u -> u*S mod T, with the columns S, X*S, ...,
+ * X^(n-1)*S.
  * In example A, p = 3, T1 = [1, 0], T2 = [2, 1], S = R = [1, 2], written row / row:
  *    forward                            1 1 / 0 2, with the columns 1 and S mod T2
  *    back                               1 1 / 0 2, with the columns 1 and R mod T1

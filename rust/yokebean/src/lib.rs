@@ -154,7 +154,8 @@ pub fn maps(size: Size, t1: &[u32], t2: &[u32], s: &[u32], r: &[u32], out: &mut 
 
 /// The matrices of the two maps, from a pair that the checker accepts: `forward` gets that of u ↦ u(S) mod T2, whose columns are the powers
 /// S⁰ to S^(n−1) mod T2, and `back` that of u ↦ u(R) mod T1, whose columns are the powers of R. Each has n·n words, row after row: word i·n + j is
-/// coefficient i of the j-th power. They multiply to the identity both ways. Refusals 1, 2, 3, 4, 6, 7, 8.
+/// coefficient i of S^j, or of R^j. They multiply to the identity modulo p both ways. The matrices of source document 004 are not these but those of
+/// multiplication; include/yokebean.h has both for example A. Refusals 1, 2, 3, 4, 6, 7, 8.
 ///
 /// ```
 /// use yokebean::{matrices, Refusal, Size};
