@@ -1,10 +1,9 @@
 -- A matrix row after row: word i·n + j of the list is the word in row i and column j.
-use mathlib.Core.Path.{_≡_, refl, sym, ap, ap₂, _∙_}
-use mathlib.Core.List.{List, map}
+use mathlib.Core.Path.{_≡_, ap, ap₂, _∙_}
 use Prim.Native.Nat.{ℕ, zero, suc, _+_, _*_, _/_, _%_, _≤_, _<_}
 use native.Mathlib.Nat as Nat
 use native.Mathlib.Omega.{arith}
-use lib.ListN.{length, getD, length-map}
+use lib.ListN.{length, length-map}
 use Rattle.algebra.specs.Lists.{range}
 use Rattle.algebra.proofs.Search.{range-length}
 use Rattle.array.specs.Words.{Words}

@@ -5,11 +5,11 @@ use Prim.Native.Nat.{ℕ, _+_, _*_, _%_, _≤_, _<_}
 use native.Mathlib.Nat as Nat
 use native.Mathlib.Omega.{arith}
 use lib.ListN.{length, getD}
-use Rattle.array.specs.Array.{entry, Square, rowProduct}
+use Rattle.array.specs.Array.{entry, rowProduct}
 use Rattle.array.specs.Words.{Words}
 use Rattle.array.proofs.Padded.{words-at}
 use Rattle.array.proofs.Words.{words-length}
-use Rattle.matrix.specs.Matrix.{Powers, matrixProduct, dot}
+use Rattle.matrix.specs.Matrix.{Powers, Rows, matrixProduct, dot}
 use Rattle.matrix.proofs.PowerMatrix.{row-dot, dot-substitutes}
 use Rattle.matrix.proofs.Ranges.{range-same, range-words, words-range}
 use Rattle.quotient.specs.Residue.{power, substitute}
@@ -54,10 +54,13 @@ powers-matrix {p} {n} {t} {s} {m} wt h out e =
 -- an array that holds a matrix
 
 module _ {p n : ℕ} {matrix m : List ℕ} (h : Loaded n matrix m) where
-  pub loaded-square : Words p (n * n) matrix → Square p n m
+  pub loaded-rows : Words p (n * n) matrix → Rows p n m
   unfolding word
-  loaded-square w =
-      record { size = h .size; below = λ i j li lj. rw (h .words i j li lj) (words-at w (i * n + j) (place-below n i j li lj)) }
+  loaded-rows w =
+      record {
+        square = record { size = h .size; below = λ i j li lj. rw (h .words i j li lj) (words-at w (i * n + j) (place-below n i j li lj)) };
+        zeros = λ i j li low high. h .zeros i j low high;
+      }
 
   pub loaded-times : {u : List ℕ} → Words p n u → matrixProduct p n m u ≡ matrixTimes p n matrix u
   unfolding matrixProduct matrixTimes

@@ -1,7 +1,7 @@
 // A matrix of n rows: in a list, row after row, and in an array, whose rows have 16 words.
 ghost use mathlib.Core.Path.{_≡_};
 ghost use Prim.Native.Nat.{_*_, _≤_};
-ghost use lib.ListN.{length};
+ghost use lib.ListN.{length, replicate};
 ghost use Rattle.array.specs.Array.{entry, Square};
 ghost use Rattle.array.specs.Words.{wordBound};
 ghost use Rattle.bymatrix.specs.ByMatrix.{square};
@@ -28,9 +28,9 @@ pub fn store_rows(n: usize, m: &[u64; 256], out: &mut [Word])
     }
 }
 
-// A list of n rows into the first n rows and columns of m.
+// A list of n rows into the first n rows and columns of m, which is 0.
 pub fn load_rows(n: usize, matrix: &[Word], m: &mut [u64; 256])
-    requires { ⌜ (1 ≤ n) × (n ≤ 16) × (length (now matrix) ≡ n * n) × (length (now m) ≡ 256) ⌝ }
+    requires { ⌜ (1 ≤ n) × (n ≤ 16) × (length (now matrix) ≡ n * n) × (now m ≡ replicate 256 0) ⌝ }
     ensures { λ _. ⌜ Loaded n (now (matrix .entry)) (now (m .exit)) ⌝ }
 {
     let mut i = 0;

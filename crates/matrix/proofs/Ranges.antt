@@ -61,3 +61,9 @@ pub words-range : {p n : ℕ} (f : ℕ → ℕ) {u : List ℕ} → Words p n u �
 words-range {p} {n} f {u} w h =
     let size : length u ≡ n = words-length w in
     sym (table-range f f 0 n (λ k. ap f (sym (Nat.zero-add k)))) ∙ ap (table f) (sym size) ∙ table-of f u (λ i l. h i (rw size at l))
+
+-- a list of zeros
+pub zeros-word : (k i : ℕ) → getD {A = ℕ} (replicate k 0) i 0 ≡ 0
+zeros-word zero i = refl
+zeros-word (suc k) zero = refl
+zeros-word (suc k) (suc i) = zeros-word k i

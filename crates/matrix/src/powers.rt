@@ -5,7 +5,7 @@ ghost use Prim.Native.Nat.{_^_, _≤_, _<_};
 ghost use lib.ListN.{length, take};
 ghost use Rattle.array.specs.Array.{padded, Holds};
 ghost use Rattle.modular.specs.Barrett.{Reduces};
-ghost use Rattle.matrix.specs.Matrix.{Powers, Placed, column as columnOf};
+ghost use Rattle.matrix.specs.Matrix.{Powers, Placed, Kept, column as columnOf};
 use crate::multiples::multiples;
 use crate::product::products;
 use modular::barrett::Barrett;
@@ -29,6 +29,7 @@ fn few_powers(d: Barrett, n: usize, t: &[u64; 16], s: &[u64; 16], m: &mut [u64; 
     requires { ⌜ Holds (d .p) n (now t) × Holds (d .p) n (now s) ⌝ }
     requires { ⌜ Powers (d .p) 1 (take n (now t)) (take n (now s)) (now m) ⌝ }
     ensures { λ _. ⌜ Powers (d .p) n (take n (now (t .entry))) (take n (now (s .entry))) (now (m .exit)) ⌝ }
+    ensures { λ _. ⌜ Kept n (now (m .entry)) (now (m .exit)) ⌝ }
 {
     let mut u = *s;
     place(n, 1, &u, m);
@@ -46,6 +47,7 @@ fn many_powers(d: Barrett, n: usize, t: &[u64; 16], s: &[u64; 16], m: &mut [u64;
     requires { ⌜ Holds (d .p) n (now t) × Holds (d .p) n (now s) ⌝ }
     requires { ⌜ Powers (d .p) 1 (take n (now t)) (take n (now s)) (now m) ⌝ }
     ensures { λ _. ⌜ Powers (d .p) n (take n (now (t .entry))) (take n (now (s .entry))) (now (m .exit)) ⌝ }
+    ensures { λ _. ⌜ Kept n (now (m .entry)) (now (m .exit)) ⌝ }
 {
     let mut by_s = [0; 256];
     multiples(d, n, t, s, &mut by_s);
@@ -65,6 +67,7 @@ fn higher_powers(d: Barrett, n: usize, t: &[u64; 16], s: &[u64; 16], m: &mut [u6
     requires { ⌜ Holds (d .p) n (now t) × Holds (d .p) n (now s) ⌝ }
     requires { ⌜ Powers (d .p) 1 (take n (now t)) (take n (now s)) (now m) ⌝ }
     ensures { λ _. ⌜ Powers (d .p) n (take n (now (t .entry))) (take n (now (s .entry))) (now (m .exit)) ⌝ }
+    ensures { λ _. ⌜ Kept n (now (m .entry)) (now (m .exit)) ⌝ }
 {
     if n < 7 {
         few_powers(d, n, t, s, m);
@@ -73,12 +76,13 @@ fn higher_powers(d: Barrett, n: usize, t: &[u64; 16], s: &[u64; 16], m: &mut [u6
     }
 }
 
-// The powers 1, S, …, S^(n−1) modulo T.
+// The powers 1, S, …, S^(n−1) modulo T. The further columns stay as they are.
 pub fn powers(p: u64, n: usize, t: &[u64; 16], s: &[u64; 16], m: &mut [u64; 256])
     requires { ⌜ (2 ≤ p) × (p ≤ 2 ^ 20) × (1 ≤ n) × (n ≤ 16) ⌝ }
     requires { ⌜ Holds p n (now t) × Holds p n (now s) ⌝ }
     requires { ⌜ length (now m) ≡ 256 ⌝ }
     ensures { λ _. ⌜ Powers p n (take n (now (t .entry))) (take n (now (s .entry))) (now (m .exit)) ⌝ }
+    ensures { λ _. ⌜ Kept n (now (m .entry)) (now (m .exit)) ⌝ }
 {
     let mut one = [0; 16];
     one[0] = 1;

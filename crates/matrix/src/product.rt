@@ -4,10 +4,10 @@ ghost use Prim.Native.Nat.{_*_, _%_, _^_, _≤_, _<_};
 ghost use lib.ListN.{take};
 ghost use Rattle.array.specs.Array.{padded, Holds, Square, rowProduct};
 ghost use Rattle.modular.specs.Barrett.{Reduces};
-ghost use Rattle.matrix.specs.Matrix.{matrixProduct};
+ghost use Rattle.matrix.specs.Matrix.{matrixProduct, Factors};
 use modular::barrett::Barrett;
 
-// The low 32 bits of a word of a row times a word of u. After the words of u there are zeros, and what the row holds there does not count.
+// The low 32 bits of a word of a row times a word of u. Past the words that count one of the two is 0, and what the other holds there is left out.
 fn term(a: u64, b: u64) -> u64
     requires { ⌜ b < 2 ^ 32 ⌝ }
     ensures { λ r. ⌜ r ≡ a % 2 ^ 32 * b ⌝ }
@@ -18,7 +18,7 @@ fn term(a: u64, b: u64) -> u64
 // The product of row i with u, modulo p: the sum of sixteen products is reduced once. With that number in place of n the loop is unrolled.
 pub fn dot(d: Barrett, n: usize, m: &[u64; 256], u: &[u64; 16], i: usize) -> u64
     requires { ⌜ Reduces d × (n ≤ 16) × (i < n) ⌝ }
-    requires { ⌜ Square (d .p) n (now m) × Holds (d .p) n (now u) ⌝ }
+    requires { ⌜ Factors (d .p) n i (now m) (now u) ⌝ }
     ensures { λ r. ⌜ r ≡ rowProduct (now (m .entry)) i 0 (take n (now (u .entry))) % d .p ⌝ }
 {
     let mut sum = 0;

@@ -1,11 +1,11 @@
-// The product of a matrix with a list of words, modulo p, into another list: for tables, where the divisor is worked out once for many products.
+// The product of a matrix with words of a list, modulo p, into another list: for tables, where the divisor is worked out once for many products.
 ghost use mathlib.Core.Path.{_≡_};
 ghost use Prim.Native.Nat.{_%_, _≤_, _<_};
-ghost use lib.ListN.{length};
-ghost use Rattle.array.specs.Words.{Words};
-ghost use Rattle.array.specs.Array.{padded, Square, rowProduct};
+ghost use lib.ListN.{length, take};
+ghost use Rattle.array.specs.Words.{Words, wordBound};
+ghost use Rattle.array.specs.Array.{Square, rowProduct};
 ghost use Rattle.modular.specs.Barrett.{Reduces};
-ghost use Rattle.matrix.specs.Matrix.{matrixProduct};
+ghost use Rattle.matrix.specs.Matrix.{matrixProduct, Rows, Begins};
 use crate::product::dot;
 use array::Word;
 use array::copy::load;
@@ -40,25 +40,22 @@ fn multiply_few(d: Barrett, n: usize, m: &[u64; 256], u: &[Word], out: &mut [Wor
     }
 }
 
-// The n words of u in an array. Where they are eight or sixteen the compiler knows their number, and loads them without a loop.
+// The first n words of u in an array, with what follows them where there are 16: the compiler knows their number then, and loads them without a loop.
 fn load_words(n: usize, u: &[Word]) -> [u64; 16]
-    requires { ⌜ (n ≤ 16) × (length (now u) ≡ n) ⌝ }
-    ensures { λ r. ⌜ r ≡ padded (now (u .entry)) ⌝ }
+    requires { ⌜ (n ≤ 16) × (n ≤ length (now u)) × Words wordBound (length (now u)) (now u) ⌝ }
+    ensures { λ r. ⌜ Begins n (now (u .entry)) r ⌝ }
 {
-    if n == 16 {
-        return load(&u[..16]);
+    if u.len() < 16 {
+        return load(&u[..n]);
     }
-    if n == 8 {
-        return load(&u[..8]);
-    }
-    load(u)
+    load(&u[..16])
 }
 
-// The product with many words, which are loaded once for all rows.
+// The product with many words, which are loaded once for all rows. What follows them in the array meets the zeros of the matrix.
 fn multiply_many(d: Barrett, n: usize, m: &[u64; 256], u: &[Word], out: &mut [Word])
-    requires { ⌜ Reduces d × (n ≤ 16) × (length (now out) ≡ n) ⌝ }
-    requires { ⌜ Square (d .p) n (now m) × Words (d .p) n (now u) ⌝ }
-    ensures { λ _. ⌜ now (out .exit) ≡ matrixProduct (d .p) n (now (m .entry)) (now (u .entry)) ⌝ }
+    requires { ⌜ Reduces d × (n ≤ 16) × (length (now out) ≡ n) × (n ≤ length (now u)) ⌝ }
+    requires { ⌜ Rows (d .p) n (now m) × Words (d .p) (length (now u)) (now u) ⌝ }
+    ensures { λ _. ⌜ now (out .exit) ≡ matrixProduct (d .p) n (now (m .entry)) (take n (now (u .entry))) ⌝ }
 {
     let loaded = load_words(n, u);
     let mut i = 0;
@@ -68,14 +65,14 @@ fn multiply_many(d: Barrett, n: usize, m: &[u64; 256], u: &[Word], out: &mut [Wo
     }
 }
 
-// The product of a matrix with the n words of u.
+// The product of a matrix with the first n words of u.
 pub fn multiply(d: Barrett, n: usize, m: &[u64; 256], u: &[Word], out: &mut [Word])
-    requires { ⌜ Reduces d × (n ≤ 16) × (length (now out) ≡ n) ⌝ }
-    requires { ⌜ Square (d .p) n (now m) × Words (d .p) n (now u) ⌝ }
-    ensures { λ _. ⌜ now (out .exit) ≡ matrixProduct (d .p) n (now (m .entry)) (now (u .entry)) ⌝ }
+    requires { ⌜ Reduces d × (n ≤ 16) × (length (now out) ≡ n) × (n ≤ length (now u)) ⌝ }
+    requires { ⌜ Rows (d .p) n (now m) × Words (d .p) (length (now u)) (now u) ⌝ }
+    ensures { λ _. ⌜ now (out .exit) ≡ matrixProduct (d .p) n (now (m .entry)) (take n (now (u .entry))) ⌝ }
 {
-    if n < 8 {
-        multiply_few(d, n, m, u, out);
+    if n < 6 {
+        multiply_few(d, n, m, &u[..n], out);
     } else {
         multiply_many(d, n, m, u, out);
     }

@@ -8,22 +8,21 @@ ghost use mathlib.Core.Path.{_≡_};
 ghost use Prim.Native.Nat.{_/_, _^_, _≤_};
 ghost use lib.ListN.{length};
 ghost use Rattle.array.specs.Words.{Words};
-ghost use Rattle.array.specs.Array.{Square};
 ghost use Rattle.modular.specs.Barrett.{Reduces};
-ghost use Rattle.matrix.specs.Matrix.{matrixProduct};
+ghost use Rattle.matrix.specs.Matrix.{matrixProduct, Rows};
 ghost use Rattle.table.specs.Table.{eachGroup, converted, tableNumber};
 
 // The products of a matrix with the groups of a table, one after the other: the one conversion of tables, by substitution and by a matrix that is sent.
 pub fn convert_groups(d: Barrett, n: usize, m: &[u64; 256], table: &[Word], out: &mut [Word])
     requires { ⌜ Reduces d × (1 ≤ n) × (n ≤ 16) ⌝ }
-    requires { ⌜ Square (d .p) n (now m) ⌝ }
+    requires { ⌜ Rows (d .p) n (now m) ⌝ }
     requires { ⌜ tableNumber (d .p) n (now table) (now out) ≡ 0 ⌝ }
     ensures { λ _. ⌜ now (out .exit) ≡ eachGroup n (matrixProduct (d .p) n (now (m .entry))) (length (now (table .entry)) / n) (now (table .entry)) ⌝ }
 {
     let mut i = 0;
     while i < table.len() {
         let e = i + n;
-        multiply(d, n, m, &table[i..e], &mut out[i..e]);
+        multiply(d, n, m, &table[i..], &mut out[i..e]);
         i = e;
     }
 }

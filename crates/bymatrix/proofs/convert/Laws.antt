@@ -7,10 +7,9 @@ use native.Mathlib.Omega.{arith}
 use lib.Dec.{eqb}
 use lib.ListN.{length}
 use Rattle.algebra.specs.Lists.{all}
-use Rattle.array.specs.Array.{Square}
 use Rattle.array.specs.Words.{allBelow}
 use Rattle.array.proofs.Words.{words-length}
-use Rattle.matrix.specs.Matrix.{matrixProduct}
+use Rattle.matrix.specs.Matrix.{Rows, matrixProduct}
 use Rattle.modular.specs.Prime.{isPrime}
 use Rattle.refusal.specs.Refusal.{refuse, isDegree, badPrime, badDegree, badLength, badWord}
 use Rattle.refusal.proofs.Refusal.{refuse-none, degree-given}
@@ -22,7 +21,7 @@ use Rattle.table.proofs.number.Laws.{lengths-stay, lengths-pass}
 use Rattle.bymatrix.specs.ByMatrix.{matrixTimes, byMatrix, byMatrixNumber, byMatrixOutput}
 use Rattle.bymatrix.specs.Contracts.{Loaded}
 use Rattle.bymatrix.proofs.Given.{Ready, ready-given}
-use Rattle.bymatrix.proofs.Products.{loaded-square, loaded-times}
+use Rattle.bymatrix.proofs.Products.{loaded-rows, loaded-times}
 
 -- 1, 2 and 3, and what comes after them
 
@@ -98,8 +97,8 @@ module _ (p n : ℕ) (m table out : List ℕ) (h : byMatrixNumber p n m table ou
     ready-table = ap (λ k. tableNumber k n table out) same ∙ ready .numbers
 
     module _ (a : List ℕ) (held : Loaded n m a) where
-      pub ready-square : Square q n a
-      ready-square = rw same (loaded-square held (ready .matrix))
+      pub ready-rows : Rows q n a
+      ready-rows = rw same (loaded-rows held (ready .matrix))
 
       pub products-written : (after : List ℕ) → after ≡ eachGroup n (matrixProduct q n a) (length table / n) table → after ≡ byMatrix p n m table
       unfolding byMatrix
@@ -110,9 +109,6 @@ module _ (p n : ℕ) (m table out : List ℕ) (h : byMatrixNumber p n m table ou
 -- the list after the call
 
 module _ (p n number : ℕ) (m table out : List ℕ) (e : number ≡ byMatrixNumber p n m table out) where
-  pub call-accepted : number ≡ 0 → byMatrixNumber p n m table out ≡ 0
-  call-accepted h = sym e ∙ h
-
   pub image-new : number ≡ 0 → (after : List ℕ) → after ≡ byMatrix p n m table → after ≡ byMatrixOutput p n m table out
   unfolding byMatrixOutput
   image-new h after f = output-new number (byMatrixNumber p n m table out) (byMatrix p n m table) out after e h f

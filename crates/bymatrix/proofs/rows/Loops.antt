@@ -6,14 +6,14 @@ use mathlib.Core.List.{List}
 use Prim.Native.Nat.{ℕ, _+_, _*_, _/_, _%_, _≤_, _<_}
 use native.Mathlib.Decide.{ℕ-discrete}
 use native.Mathlib.Omega.{arith}
-use lib.ListN.{length, getD, set, length-set}
+use lib.ListN.{length, getD, set, replicate, length-set, length-replicate}
 use lib.Seq.{getD-set-same, getD-set-other}
 use mir.Syntax.{w32}
 use mir.Val.{Fits}
 use Rattle.array.specs.Array.{entry, Square}
 use Rattle.array.specs.Words.{wordBound}
 use Rattle.array.proofs.Painted.{painted, painted-none, painted-turn}
-use Rattle.matrix.proofs.Ranges.{painted-range}
+use Rattle.matrix.proofs.Ranges.{painted-range, zeros-word}
 use Rattle.bymatrix.specs.ByMatrix.{word, square}
 use Rattle.bymatrix.specs.Contracts.{Loaded}
 use Rattle.bymatrix.proofs.Places.{row-of, column-of, place-below}
@@ -55,9 +55,15 @@ module _ (n : ℕ) (m out₀ out : List ℕ) (i j k : ℕ) (x : Counters n i j k
 pub record Loading (n : ℕ) (matrix m : List ℕ) (k : ℕ) : Type 0 where
   pub size : length m ≡ 256
   pub words : (a b : ℕ) → b < n → a * n + b < k → entry m a b ≡ getD matrix (a * n + b) 0
+  pub zeros : (a b : ℕ) → n ≤ b → b < 16 → entry m a b ≡ 0
 
-pub load-starts : (n : ℕ) (matrix m : List ℕ) → length m ≡ 256 → Loading n matrix m 0
-load-starts n matrix m size = record { size = size; words = λ a b lb l. absurd (omega arith) }
+pub load-starts : (n : ℕ) (matrix m : List ℕ) → m ≡ replicate 256 0 → Loading n matrix m 0
+load-starts n matrix m e =
+    record {
+      size = ap length e ∙ length-replicate {A = ℕ} 256 0;
+      words = λ a b lb l. absurd (omega arith);
+      zeros = λ a b low high. ap (λ xs. entry xs a b) e ∙ zeros-word 256 (16 * a + b);
+    }
 
 module _ (n : ℕ) (matrix m : List ℕ) (i j k : ℕ) (short : n ≤ 16) (room : length matrix ≡ n * n) (x : Counters n i j k) (c : Loading n matrix m k) where
   -- another place of the list is another place of the array
@@ -80,8 +86,13 @@ module _ (n : ℕ) (matrix m : List ℕ) (i j k : ℕ) (short : n ≤ 16) (room 
             getD-set-other m (16 * i + j) (16 * a + b) (getD matrix k 0) 0 (λ e. other (same-place a b lb e)) ∙ c .words a b lb (omega arith)
 
     pub load-turn : Loading n matrix (set m (16 * i + j) (getD matrix k 0)) (k + 1)
-    load-turn = record { size = length-set m (16 * i + j) (getD matrix k 0) ∙ c .size; words = loaded }
+    load-turn =
+        record {
+          size = length-set m (16 * i + j) (getD matrix k 0) ∙ c .size;
+          words = loaded;
+          zeros = λ a b low high. getD-set-other m (16 * i + j) (16 * a + b) (getD matrix k 0) 0 (λ e. absurd (omega (arith, x .column))) ∙ c .zeros a b low high;
+        }
 
   pub load-done : length matrix ≤ k → Loaded n matrix m
   unfolding word
-  load-done l = record { size = c .size; words = λ a b la lb. c .words a b lb (omega (arith, room, place-below n a b la lb)) }
+  load-done l = record { size = c .size; words = λ a b la lb. c .words a b lb (omega (arith, room, place-below n a b la lb)); zeros = c .zeros }

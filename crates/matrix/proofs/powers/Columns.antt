@@ -10,7 +10,7 @@ use Rattle.quotient.specs.Residue.{product, power}
 use Rattle.quotient.proofs.Operations.{power-words}
 use Rattle.array.proofs.Words.{words-length}
 use Rattle.array.specs.Array.{padded, Holds}
-use Rattle.matrix.specs.Matrix.{Powers, Multiples, Placed, matrixProduct}
+use Rattle.matrix.specs.Matrix.{Powers, Multiples, Placed, Kept, matrixProduct}
 use Rattle.array.proofs.Padded.{array-length, holds-is, front-is}
 use Rattle.matrix.proofs.Placed.{placed-next}
 use Rattle.matrix.proofs.MultiplicationMatrix.{whole-holds, products-multiply}
@@ -87,3 +87,20 @@ pub powers-done : (p n j : ℕ) (t s m : List ℕ) → j ≤ n → n ≤ j → P
 powers-done p n j t s m l l′ h =
     let same : j ≡ n = omega arith in
     subst (λ k. Powers p k t s m) same h
+
+-- the columns from n on
+
+pub kept-none : (n : ℕ) (m : List ℕ) → Kept n m m
+kept-none n m = record { words = λ i j l l′. refl }
+
+pub kept-placed : (n j : ℕ) (u m m′ : List ℕ) → j < n → Placed n j u m m′ → Kept n m m′
+kept-placed n j u m m′ l h = record { words = λ i k low high. h .others i k high (λ e. absurd (omega arith)) }
+
+kept-both : (n : ℕ) (m m′ m″ : List ℕ) → Kept n m m′ → Kept n m′ m″ → Kept n m m″
+kept-both n m m′ m″ g h = record { words = λ i j low high. h .words i j low high ∙ g .words i j low high }
+
+pub kept-turn : (n j : ℕ) (u m m′ m″ : List ℕ) → j < n → Kept n m m′ → Placed n j u m′ m″ → Kept n m m″
+kept-turn n j u m m′ m″ l g h = kept-both n m m′ m″ g (kept-placed n j u m′ m″ l h)
+
+pub kept-after : (n j : ℕ) (u m m′ m″ : List ℕ) → j < n → Placed n j u m m′ → Kept n m′ m″ → Kept n m m″
+kept-after n j u m m′ m″ l g h = kept-both n m m′ m″ (kept-placed n j u m m′ l g) h

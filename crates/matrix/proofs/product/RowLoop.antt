@@ -2,7 +2,7 @@
 --   Term p i j m u r      r is the product of word j of row i with word j of u, and at most p²
 --   RowSum p i m u j s    s is the sum of the first j such products
 use mathlib.Core.Path.{_≡_, refl, sym, ap, ap₂, _∙_}
-use mathlib.Core.List.{List, [], _∷_, _++_, append-nil}
+use mathlib.Core.List.{List, [], _∷_, _++_}
 use Prim.Native.Nat.{ℕ, zero, suc, _+_, _-_, _*_, _%_, _^_, _≤_, _<_}
 use native.Mathlib.Nat as Nat
 use native.Mathlib.Decide.{decLt}
@@ -12,10 +12,11 @@ use lib.ListN.{length, getD, take, replicate, length-take}
 use lib.Seq.{take-suc, take-all, length-take-le}
 use mir.Syntax.{w64}
 use mir.Val.{Fits}
-use Rattle.array.specs.Words.{Words}
+use Rattle.array.specs.Words.{Words, wordBound}
 use Rattle.array.specs.Array.{padded, Holds, entry, Square, rowProduct}
 use Rattle.array.proofs.Words.{words-length}
 use Rattle.array.proofs.Padded.{holds-word, words-at, array-length}
+use Rattle.matrix.specs.Matrix.{Factors}
 
 -- one product
 
@@ -26,10 +27,16 @@ zeros-after [] (suc k) (suc j) h = zeros-after [] k j (omega arith)
 zeros-after (a ∷ v) k zero h = absurd (omega arith)
 zeros-after (a ∷ v) k (suc j) h = zeros-after v k j (omega arith)
 
-zero-word : {p n : ℕ} {u : List ℕ} → Holds p n u → (j : ℕ) → n ≤ j → getD u j 0 ≡ 0
+pub zero-word : {p n : ℕ} {u : List ℕ} → Holds p n u → (j : ℕ) → n ≤ j → getD u j 0 ≡ 0
 unfolding padded
 zero-word {n = n} {u = u} h j l =
     ap (λ v. getD v j 0) (h .zeros) ∙ zeros-after (take n u) (16 - length (take n u)) j (rw length-take (omega arith))
+
+-- where a·b is 0, the low bits of a times b are
+low-none : (a b : ℕ) → a * b ≡ 0 → a % 2 ^ 32 * b ≡ 0
+low-none a b h =
+    let few : a % 2 ^ 32 * b ≤ a * b = Nat.mul-le-mul-right b (Nat.mod-le a (2 ^ 32)) in
+    omega arith
 
 module _ (a b : ℕ) (l : b < 2 ^ 32) where
   low-same : b % 2 ^ 32 ≡ b
@@ -53,46 +60,56 @@ pub record Term (p i j : ℕ) (m u : List ℕ) (r : ℕ) : Type 0 where
 term-of : (p i j : ℕ) (m u : List ℕ) (r : ℕ) → r ≡ entry m i j * getD u j 0 → entry m i j < p → getD u j 0 < p → j < length u → j < 16 → Term p i j m u r
 term-of p i j m u r e la lb place turn = record { value = e; small = rw e (Nat.mul-le-mul (omega arith) (omega arith)); place = place; turn = turn }
 
-module _ (p n i j : ℕ) (m u : List ℕ) (few : p ≤ 2 ^ 20) (short : n ≤ 16) (x : Square p n m) (li : i < n) where
-  module _ (y : Holds p n u) where
-    array-place : j < 16 → j < length u
-    array-place l = omega (arith, array-length n u short (y .zeros))
+module _ (p n i j : ℕ) (m u : List ℕ) (x : Factors p n i m u) where
+  pub word-low : getD u j 0 < 2 ^ 32
+  word-low = x .low j
 
-    pub word-low : getD u j 0 < 2 ^ 32
-    word-low = go (decLt j n)
-      where
-        go : Dec (j < n) → getD u j 0 < 2 ^ 32
-        go (yes l) = omega (arith, holds-word y j l)
-        go (no l) = omega (arith, zero-word y j (omega arith))
+  -- past n words one of the two is 0
+  pub array-term : (r : ℕ) → p ≤ 2 ^ 20 → j < 16 → r ≡ getD m (16 * i + j) 0 % 2 ^ 32 * getD u j 0 → Term p i j m u r
+  array-term r few lj e = go (decLt j n)
+    where
+      place : j < length u
+      place = omega (arith, x .size)
 
-    -- past n words the word of u is 0
-    pub array-term : (r : ℕ) → j < 16 → r ≡ getD m (16 * i + j) 0 % 2 ^ 32 * getD u j 0 → Term p i j m u r
-    array-term r lj e = go (decLt j n)
-      where
-        go : Dec (j < n) → Term p i j m u r
-        go (yes l) =
-            let la : entry m i j < p = x .below i j li l in
-            term-of p i j m u r (e ∙ ap (λ a. a * getD u j 0) (Nat.mod-eq-of-lt (omega arith))) la (holds-word y j l) (array-place lj) lj
-        go (no l) =
-            let z : getD u j 0 ≡ 0 = zero-word y j (omega arith) in
-            let none : r ≡ 0 = e ∙ ap (λ b. entry m i j % 2 ^ 32 * b) z ∙ Nat.mul-zero (entry m i j % 2 ^ 32) in
-            record { value = none ∙ sym (ap (λ b. entry m i j * b) z ∙ Nat.mul-zero (entry m i j)); small = omega arith; place = array-place lj; turn = lj }
+      go : Dec (j < n) → Term p i j m u r
+      go (yes l) =
+          let (la, lb) = x .below j l in
+          term-of p i j m u r (e ∙ ap (λ a. a * getD u j 0) (Nat.mod-eq-of-lt (omega arith))) la lb place lj
+      go (no l) =
+          let none : entry m i j * getD u j 0 ≡ 0 = x .rest j (omega arith) lj in
+          let zero : r ≡ 0 = e ∙ low-none (entry m i j) (getD u j 0) none in
+          record { value = zero ∙ sym none; small = omega arith; place = place; turn = lj }
 
-  module _ (y : Words p n u) (lj : j < n) where
-    pub list-place : j < length u
-    list-place = omega (arith, words-length y)
+module _ (p n i j : ℕ) (m u : List ℕ) (few : p ≤ 2 ^ 20) (short : n ≤ 16) (x : Square p n m) (li : i < n) (y : Words p n u) (lj : j < n) where
+  pub list-place : j < length u
+  list-place = omega (arith, words-length y)
 
-    pub list-word : getD u j 0 < 2 ^ 32
-    list-word = omega (arith, words-at y j lj)
+  pub list-word : getD u j 0 < 2 ^ 32
+  list-word = omega (arith, words-at y j lj)
 
-    pub list-word-fits : Fits w64 (getD u j 0)
-    list-word-fits = omega (arith, list-word)
+  pub list-word-fits : Fits w64 (getD u j 0)
+  list-word-fits = omega (arith, list-word)
 
-    pub entry-low : getD m (16 * i + j) 0 < 2 ^ 32
-    entry-low = omega (arith, x .below i j li lj)
+  pub entry-low : getD m (16 * i + j) 0 < 2 ^ 32
+  entry-low = omega (arith, x .below i j li lj)
 
-    pub list-term : (r : ℕ) → r ≡ getD m (16 * i + j) 0 * getD u j 0 → Term p i j m u r
-    list-term r e = term-of p i j m u r e (x .below i j li lj) (words-at y j lj) list-place (omega arith)
+  pub list-term : (r : ℕ) → r ≡ getD m (16 * i + j) 0 * getD u j 0 → Term p i j m u r
+  list-term r e = term-of p i j m u r e (x .below i j li lj) (words-at y j lj) list-place (omega arith)
+
+-- the factors, where the zeros are in u
+pub products-factors : (p n k i : ℕ) (m u : List ℕ) → p ≤ 2 ^ 20 → n ≤ k → k ≤ 16 → i < n → Square p k m → Holds p k u → Factors p k i m u
+products-factors p n k i m u few wide short li x y =
+    record {
+      matrix-size = x .size;
+      size = array-length k u short (y .zeros);
+      low = λ j. low j (decLt j k);
+      below = λ j l. (x .below i j (omega arith) l, holds-word y j l);
+      rest = λ j l h. ap (λ b. entry m i j * b) (zero-word y j l) ∙ Nat.mul-zero (entry m i j);
+    }
+  where
+    low : (j : ℕ) → Dec (j < k) → getD u j 0 < wordBound
+    low j (yes l) = omega (arith, holds-word y j l)
+    low j (no l) = omega (arith, zero-word y j (omega arith))
 
 -- the product of a row with u
 
@@ -104,11 +121,21 @@ row-last m i j (b ∷ v) a =
     ∙ ap (λ k. entry m i j * b + (rowProduct m i (suc j) v + entry m i k * a)) (Nat.suc-add j (length v) ∙ sym (Nat.add-suc j (length v)))
     ∙ sym (Nat.add-assoc (entry m i j * b) (rowProduct m i (suc j) v) _)
 
-row-zeros : (m : List ℕ) (i j k : ℕ) (v : List ℕ) → rowProduct m i j (v ++ replicate k 0) ≡ rowProduct m i j v
+-- words whose products are 0 do not count
+row-none : (m : List ℕ) (i j : ℕ) (v : List ℕ) → ((k : ℕ) → k < length v → entry m i (j + k) * getD v k 0 ≡ 0) → rowProduct m i j v ≡ 0
 unfolding rowProduct
-row-zeros m i j zero v = ap (rowProduct m i j) (append-nil v)
-row-zeros m i j (suc k) [] = ap₂ _+_ (Nat.mul-zero (entry m i j)) (row-zeros m i (suc j) k [])
-row-zeros m i j (suc k) (a ∷ v) = ap (λ x. entry m i j * a + x) (row-zeros m i (suc j) (suc k) v)
+row-none m i j [] h = refl
+row-none m i j (a ∷ v) h =
+    ap₂ _+_ (ap (λ k. entry m i k * a) (sym (Nat.add-zero j)) ∙ h 0 (omega arith))
+    (row-none m i (suc j) v (λ k l. ap (λ b. entry m i b * getD v k 0) (Nat.suc-add j k ∙ sym (Nat.add-suc j k)) ∙ h (suc k) (omega arith)))
+
+row-front : (m : List ℕ) (i j n : ℕ) (v : List ℕ) → ((k : ℕ) → n ≤ k → k < length v → entry m i (j + k) * getD v k 0 ≡ 0) → rowProduct m i j v ≡ rowProduct m i j (take n v)
+unfolding rowProduct
+row-front m i j zero v h = row-none m i j v (λ k l. h k (omega arith) l)
+row-front m i j (suc n) [] h = refl
+row-front m i j (suc n) (a ∷ v) h =
+    ap (λ x. entry m i j * a + x)
+    (row-front m i (suc j) n v (λ k low l. ap (λ b. entry m i b * getD v k 0) (Nat.suc-add j k ∙ sym (Nat.add-suc j k)) ∙ h (suc k) (omega arith) (omega arith)))
 
 pub record RowSum (p i : ℕ) (m u : List ℕ) (j sum : ℕ) : Type 0 where
   pub value : sum ≡ rowProduct m i 0 (take j u)
@@ -151,8 +178,7 @@ module _ (p i : ℕ) (m u : List ℕ) (j sum : ℕ) (h : RowSum p i m u j sum) w
   pub list-row : (n : ℕ) → Words p n u → n ≤ j → (r : ℕ) → r ≡ sum % p → r ≡ rowProduct m i 0 u % p
   list-row n y l r f = whole-row (omega (arith, words-length y)) r f
 
-  pub array-row : (n : ℕ) → n ≤ 16 → Holds p n u → 16 ≤ j → (r : ℕ) → r ≡ sum % p → r ≡ rowProduct m i 0 (take n u) % p
-  unfolding padded
-  array-row n short y l r f =
-      whole-row (omega (arith, array-length n u short (y .zeros))) r f
-      ∙ ap (λ x. x % p) (ap (rowProduct m i 0) (y .zeros) ∙ row-zeros m i 0 (16 - length (take n u)) (take n u))
+  pub array-row : (n : ℕ) → Factors p n i m u → 16 ≤ j → (r : ℕ) → r ≡ sum % p → r ≡ rowProduct m i 0 (take n u) % p
+  array-row n x l r f =
+      whole-row (omega (arith, x .size)) r f
+      ∙ ap (λ y. y % p) (row-front m i 0 n u (λ k low high. ap (λ b. entry m i b * getD u k 0) (Nat.zero-add k) ∙ x .rest k low (omega (arith, x .size))))

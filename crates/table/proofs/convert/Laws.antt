@@ -5,21 +5,21 @@
 --   converts              the products with the powers of S are the images
 use mathlib.Core.Path.{_≡_, refl, sym, ap, ap₂, _∙_}
 use mathlib.Core.List.{List, _++_, append-nil, append-assoc}
-use Prim.Native.Nat.{ℕ, _+_, _-_, _/_, _%_, _≤_, _<_}
+use Prim.Native.Nat.{ℕ, _+_, _-_, _*_, _/_, _%_, _≤_, _<_}
 use native.Mathlib.Nat as Nat
 use native.Mathlib.Decide.{decLt}
 use native.Mathlib.Numerals.{add-one}
 use native.Mathlib.Omega.{arith}
-use lib.ListN.{length, take, drop, length-drop, length-append}
+use lib.ListN.{length, take, drop, replicate, length-drop, length-append}
 use lib.Seq.{length-take-le, drop-drop, take-at, take-all}
 use borrow.Rule.Slice.PartMut.{putMid, postOf, same-len-mid}
 use Rattle.array.specs.Words.{Words}
-use Rattle.array.specs.Array.{padded, Square, rowProduct}
-use Rattle.array.proofs.Words.{words-length, take-words, drop-words}
+use Rattle.array.specs.Array.{padded, rowProduct}
+use Rattle.array.proofs.Words.{words-length, drop-words}
 use Rattle.array.proofs.Padded.{front-is}
-use Rattle.matrix.specs.Matrix.{Powers, matrixProduct}
+use Rattle.matrix.specs.Matrix.{Powers, Kept, Rows, matrixProduct}
 use Rattle.matrix.proofs.PowerMatrix.{product-substitutes, powers-square}
-use Rattle.matrix.proofs.Ranges.{range-words}
+use Rattle.matrix.proofs.Ranges.{range-words, zeros-word}
 use Rattle.quotient.specs.Residue.{substitute}
 use Rattle.table.specs.Table.{eachGroup, converted, tableNumber}
 use Rattle.table.proofs.Convertible.{Convertible, table-given}
@@ -52,6 +52,9 @@ group-left x n h k = go (decLt x n)
 part : (i n : ℕ) (xs : List ℕ) → take (i + n - i) (drop i xs) ≡ take n (drop i xs)
 part i n xs = ap (λ k. take k (drop i xs)) (Nat.add-sub-cancel-left i n)
 
+rest : (i : ℕ) (xs : List ℕ) → take (length xs - i) (drop i xs) ≡ drop i xs
+rest i xs = take-all (length xs - i) (drop i xs) (rw length-drop (Nat.le-refl (length xs - i)))
+
 module _ (p n : ℕ) (m table out : List ℕ) (i : ℕ) (g : Progress p n m table out i) (l : i < length table) where
   pub group-ends : i + n ≤ length table
   group-ends = omega (arith, group-left (length table - i) n (g .whole) (omega arith))
@@ -62,13 +65,20 @@ module _ (p n : ℕ) (m table out : List ℕ) (i : ℕ) (g : Progress p n m tabl
   pub output-part : length (take (i + n - i) (drop i out)) ≡ n
   output-part = ap length (part i n out) ∙ length-take-le n (drop i out) (rw length-drop (omega (arith, output-ends)))
 
-  pub part-words : (out₀ : List ℕ) → tableNumber p n table out₀ ≡ 0 → Words p n (take (i + n - i) (drop i table))
-  part-words out₀ h =
-      rw (part i n table) (take-words (drop-words (table-given p n table out₀ h .words) i) n (omega (arith, group-ends)))
+  -- what is left of the table
+  rest-length : length (take (length table - i) (drop i table)) ≡ length table - i
+  rest-length = ap length (rest i table) ∙ length-drop i table
 
-  module _ (big : 2 ≤ p) (positive : 1 ≤ n) (z : List ℕ) (d : z ≡ matrixProduct p n m (take (i + n - i) (drop i table))) where
+  pub rest-words : (out₀ : List ℕ) → tableNumber p n table out₀ ≡ 0
+      → Words p (length (take (length table - i) (drop i table))) (take (length table - i) (drop i table))
+  rest-words out₀ h = rw (rest-length, rest i table) (drop-words (table-given p n table out₀ h .words) i)
+
+  pub rest-long : n ≤ length (take (length table - i) (drop i table))
+  rest-long = rw rest-length (omega (arith, group-ends))
+
+  module _ (big : 2 ≤ p) (positive : 1 ≤ n) (z : List ℕ) (d : z ≡ matrixProduct p n m (take n (take (length table - i) (drop i table)))) where
     product : z ≡ matrixProduct p n m (take n (drop i table))
-    product = d ∙ ap (matrixProduct p n m) (part i n table)
+    product = d ∙ ap (λ xs. matrixProduct p n m (take n xs)) (rest i table)
 
     product-length : length z ≡ n
     product-length = ap length product ∙ words-length (product-words p n m (take n (drop i table)) (omega arith))
@@ -80,11 +90,11 @@ module _ (p n : ℕ) (m table out : List ℕ) (i : ℕ) (g : Progress p n m tabl
     enough : n ≤ length table - i
     enough = omega (arith, group-ends)
 
-    rest : List ℕ
-    rest = eachGroup n (matrixProduct p n m) ((length table - (i + n)) / n) (drop (i + n) table)
+    later : List ℕ
+    later = eachGroup n (matrixProduct p n m) ((length table - (i + n)) / n) (drop (i + n) table)
 
-    next : eachGroup n (matrixProduct p n m) ((length table - i) / n) (drop i table) ≡ matrixProduct p n m (take n (drop i table)) ++ rest
-    unfolding rest eachGroup
+    next : eachGroup n (matrixProduct p n m) ((length table - i) / n) (drop i table) ≡ matrixProduct p n m (take n (drop i table)) ++ later
+    unfolding later eachGroup
     next =
         ap (λ k. eachGroup n (matrixProduct p n m) k (drop i table)) (Nat.div-eq-sub-div positive enough ∙ add-one _)
         ∙ ap₂ (λ k xs. matrixProduct p n m (take n (drop i table)) ++ eachGroup n (matrixProduct p n m) (k / n) xs) (sym left) (drop-drop n i table)
@@ -96,16 +106,16 @@ module _ (p n : ℕ) (m table out : List ℕ) (i : ℕ) (g : Progress p n m tabl
         (length-append (take i out) z ∙ ap₂ _+_ (length-take-le i out (omega (arith, g .lengths))) product-length)
 
     pub turn : Progress p n m table (putMid i (i + n - i) out z) (i + n)
-    unfolding rest
+    unfolding later
     turn =
         record {
           within = group-ends;
           whole = ap (λ k. k % n) left ∙ sym (Nat.mod-eq-sub-mod enough) ∙ g .whole;
           lengths = same-len-mid i (i + n - i) out z (product-length ∙ sym output-part) ∙ g .lengths;
           image =
-              ap (λ xs. xs ++ rest) front
-              ∙ append-assoc (take i out) z rest
-              ∙ ap (λ xs. take i out ++ xs) (ap (λ xs. xs ++ rest) product ∙ sym next)
+              ap (λ xs. xs ++ later) front
+              ∙ append-assoc (take i out) z later
+              ∙ ap (λ xs. take i out ++ xs) (ap (λ xs. xs ++ later) product ∙ sym next)
               ∙ g .image;
         }
 
@@ -135,8 +145,9 @@ module _ (p n : ℕ) (t s a b m : List ℕ) (big : 2 ≤ p) (wt : Words p n t) (
   powers = rw (front-is e wt, front-is f ws) at h
 
   module _ (q : ℕ) (same : q ≡ p) where
-    pub is-square : Square q n m
-    is-square = rw same (powers-square big wt ws powers)
+    pub is-rows : Kept n (replicate 256 0) m → Rows q n m
+    is-rows kept =
+        rw same (record { square = powers-square big wt ws powers; zeros = λ i j li low high. kept .words i j low high ∙ zeros-word 256 (16 * i + j) })
 
     pub converts : (table out₀ out : List ℕ) → tableNumber p n table out₀ ≡ 0 → out ≡ eachGroup n (matrixProduct q n m) (length table / n) table
         → out ≡ converted p n t s table

@@ -1,6 +1,6 @@
 -- A refusal leaves the output list alone; else the products are written.
 use borrow.Author.Needs.{needs}
-use Rattle.bymatrix.proofs.convert.Laws.{call-accepted, image-new, image-kept}
+use Rattle.bymatrix.proofs.convert.Laws.{image-new, image-kept}
 use Rattle.bymatrix.proofs.convert.convert_by_matrix.Statement.{statement}
 use Rattle.bymatrix.proofs.convert.convert_by_matrix.Tie as tie
 

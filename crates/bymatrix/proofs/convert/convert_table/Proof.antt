@@ -1,6 +1,6 @@
 -- The matrix is loaded, and each group is multiplied by it.
 use borrow.Author.Needs.{needs}
-use Rattle.bymatrix.proofs.convert.Laws.{ready-prime, ready-low, ready-short, ready-length, ready-table, ready-square, products-written}
+use Rattle.bymatrix.proofs.convert.Laws.{ready-prime, ready-low, ready-short, ready-length, ready-table, ready-rows, products-written}
 use Rattle.bymatrix.proofs.convert.convert_table.Statement.{statement}
 use Rattle.bymatrix.proofs.convert.convert_table.Tie as tie
 
@@ -11,7 +11,7 @@ new-requires : tie.Need-new-requires
 new-requires c κs = search ready-prime
 
 convert-groups-requires : tie.Need-convert-groups-requires
-convert-groups-requires c κs = ((search needs, search ready-low, search ready-short), (search ready-square, search ready-table))
+convert-groups-requires c κs = ((search needs, search ready-low, search ready-short), (search ready-rows, search ready-table))
 
 same-length : tie.Need-same-length
 same-length c = search needs

@@ -12,14 +12,14 @@ powers-requires-2 c κs = (search needs, ((search needs, search alpha2-holds), s
 
 image-requires : tie.Need-image-requires
 image-requires c κs =
-    let first = c .before .before .before .before .powers .ensures in
-    let second = c .before .before .powers2 .ensures in
+    let first = c .before .before .before .before .powers .ensures .0 in
+    let second = c .before .before .powers2 .ensures .0 in
     (search needs, (search needs, (search needs, (search (first-square, first), search (second-square, second)))))
 
 image-requires-2 : tie.Need-image-requires-2
 image-requires-2 c κs =
-    let first = c .before .before .before .before .before .before .before .powers .ensures in
-    let second = c .before .before .before .before .before .powers2 .ensures in
+    let first = c .before .before .before .before .before .before .before .powers .ensures .0 in
+    let second = c .before .before .before .before .before .powers2 .ensures .0 in
     (search needs, (search needs, (search needs, (search (second-square, second), search (first-square, first)))))
 
 returns : tie.Need-returns

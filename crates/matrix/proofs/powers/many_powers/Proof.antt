@@ -5,16 +5,16 @@ use Prim.Native.Nat.{_-_, _≤_}
 use lib.ListN.{take}
 use Rattle.quotient.specs.Residue.{power}
 use Rattle.array.specs.Array.{padded}
-use Rattle.matrix.specs.Matrix.{Powers}
+use Rattle.matrix.specs.Matrix.{Powers, Kept}
 use Rattle.array.proofs.Padded.{array-length}
 use Rattle.matrix.proofs.MultiplicationMatrix.{products-size}
-use Rattle.matrix.proofs.powers.Columns.{last-first, powers-two, last-whole, last-product, last-turn, powers-turn, powers-done}
+use Rattle.matrix.proofs.powers.Columns.{last-first, powers-two, last-whole, last-product, last-turn, powers-turn, powers-done, kept-none, kept-turn, kept-after}
 use Rattle.matrix.proofs.powers.many_powers.Statement.{statement}
 use Rattle.matrix.proofs.powers.many_powers.Tie as tie
 
 abbrev Inv-loop : tie.InvT-loop
 Inv-loop d n t s m₀ by-s u₀ j₀ m u j =
-    (2 ≤ j) × (j ≤ n) × (u ≡ padded (power (d .p) (take n t) (take n s) (j - 1))) × Powers (d .p) j (take n t) (take n s) m
+    (2 ≤ j) × (j ≤ n) × (u ≡ padded (power (d .p) (take n t) (take n s) (j - 1))) × Powers (d .p) j (take n t) (take n s) m × Kept n m₀ m
 
 abbrev μ-loop : tie.MeasureT-loop
 μ-loop d n t s m₀ by-s u₀ j₀ m u j = n - j
@@ -26,7 +26,7 @@ place-requires : tie.Need-place-requires Inv-loop μ-loop
 place-requires c κs = (search needs, search needs, search array-length, search needs)
 
 loop-holds : tie.Need-loop-holds Inv-loop μ-loop
-loop-holds c = (search needs, search needs, search last-first, search powers-two)
+loop-holds c = (search needs, search needs, search last-first, search powers-two, search kept-none)
 
 products-requires : tie.Need-products-requires Inv-loop μ-loop
 products-requires c κs = (search needs, (search needs, search last-whole))
@@ -41,10 +41,10 @@ loop-less : tie.Need-loop-less Inv-loop μ-loop
 loop-less c = search needs
 
 loop-again : tie.Need-loop-again Inv-loop μ-loop
-loop-again c = (search needs, search needs, search (last-turn, last-product), search (powers-turn, last-product))
+loop-again c = (search needs, search needs, search (last-turn, last-product), search (powers-turn, last-product), search kept-turn)
 
 returns : tie.Need-returns Inv-loop μ-loop
-returns c = search powers-done
+returns c = (search powers-done, search kept-after)
 
 pub many-powers-spec : {M : Type 1} → statement M
 many-powers-spec =

@@ -1,6 +1,6 @@
 -- Column 0 is 1, and there is no other, or the further ones follow.
 use borrow.Author.Needs.{needs}
-use Rattle.matrix.proofs.powers.Columns.{powers-one, powers-alone}
+use Rattle.matrix.proofs.powers.Columns.{powers-one, powers-alone, kept-after, kept-placed}
 use Rattle.matrix.proofs.powers.powers.Statement.{statement}
 use Rattle.matrix.proofs.powers.powers.Tie as tie
 
@@ -17,10 +17,10 @@ higher-powers-requires : tie.Need-higher-powers-requires
 higher-powers-requires c κs = let same = c .before .new .ensures .0 in (search needs, (rw same (search needs), rw same (search powers-one)))
 
 returns : tie.Need-returns
-returns c = rw (c .before .before .new .ensures .0) at (c .higher-powers .ensures)
+returns c = (rw (c .before .before .new .ensures .0) at (c .higher-powers .ensures .0), search kept-after)
 
 returns-2 : tie.Need-returns-2
-returns-2 c = search powers-alone
+returns-2 c = (search powers-alone, search kept-placed)
 
 pub powers-spec : {M : Type 1} → statement M
 powers-spec =

@@ -5,6 +5,7 @@ use Prim.Native.Nat.{_-_, _≤_}
 use lib.ListN.{take}
 use Rattle.array.proofs.Painted.{painted, painted-none}
 use Rattle.matrix.proofs.product.ProductLoop.{productWord, products-turn, products-done}
+use Rattle.matrix.proofs.product.RowLoop.{products-factors}
 use Rattle.matrix.proofs.product.products.Statement.{statement}
 use Rattle.matrix.proofs.product.products.Tie as tie
 
@@ -18,7 +19,7 @@ loop-holds : tie.Need-loop-holds Inv-loop μ-loop
 loop-holds c = (search needs, search painted-none)
 
 dot-requires : tie.Need-dot-requires Inv-loop μ-loop
-dot-requires c κs = search needs
+dot-requires c κs = (search needs, search products-factors)
 
 mul-w : tie.Need-mul-w Inv-loop μ-loop
 mul-w c = search needs

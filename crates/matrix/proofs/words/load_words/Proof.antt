@@ -1,6 +1,6 @@
--- A front of as many words as there are is the whole list.
+-- Sixteen words, or n where there are fewer: both begin with the first n.
 use borrow.Author.Needs.{needs}
-use Rattle.matrix.proofs.words.WordLoop.{front-count, front-short, front-loaded}
+use Rattle.matrix.proofs.words.WordLoop.{begins-loaded, front-count, front-short}
 use Rattle.matrix.proofs.words.load_words.Statement.{statement}
 use Rattle.matrix.proofs.words.load_words.Tie as tie
 
@@ -11,22 +11,16 @@ load-requires : tie.Need-load-requires
 load-requires c κs = search front-short
 
 returns : tie.Need-returns
-returns c = search front-loaded
+returns c = search (begins-loaded, needs)
 
 slice-aggregate-load-2 : tie.Need-slice-aggregate-load-2
-slice-aggregate-load-2 c = search front-count
+slice-aggregate-load-2 c = search (front-count, needs)
 
 load-requires-2 : tie.Need-load-requires-2
-load-requires-2 c κs = search front-short
+load-requires-2 c κs = search (front-short, needs)
 
 returns-2 : tie.Need-returns-2
-returns-2 c = search front-loaded
-
-load-requires-3 : tie.Need-load-requires-3
-load-requires-3 c κs = search needs
-
-returns-3 : tie.Need-returns-3
-returns-3 c = search needs
+returns-2 c = search (begins-loaded, needs)
 
 pub load-words-spec : {M : Type 1} → statement M
 load-words-spec =
@@ -37,6 +31,4 @@ load-words-spec =
     returns
     slice-aggregate-load-2
     load-requires-2
-    returns-2
-    load-requires-3
-    returns-3)
+    returns-2)

@@ -3,11 +3,9 @@ use borrow.Author.Needs.{needs}
 use mathlib.Core.Path.{_≡_}
 use Prim.Native.Nat.{_-_, _≤_}
 use lib.ListN.{length, take}
-use Rattle.array.proofs.Words.{words-length}
-use Rattle.array.proofs.Padded.{holds-is}
 use Rattle.array.proofs.Painted.{painted, painted-none}
 use Rattle.matrix.proofs.product.ProductLoop.{productWord, apply-turn}
-use Rattle.matrix.proofs.words.WordLoop.{word-fits, loaded-done}
+use Rattle.matrix.proofs.words.WordLoop.{word-fits, words-fit, loaded-factors, loaded-done}
 use Rattle.matrix.proofs.words.multiply_many.Statement.{statement}
 use Rattle.matrix.proofs.words.multiply_many.Tie as tie
 
@@ -18,13 +16,13 @@ abbrev μ-loop : tie.MeasureT-loop
 μ-loop d n m u out₀ loaded i₀ out i = n - i
 
 load-words-requires : tie.Need-load-words-requires Inv-loop μ-loop
-load-words-requires c κs = (search needs, search words-length)
+load-words-requires c κs = (search needs, search needs, search words-fit)
 
 loop-holds : tie.Need-loop-holds Inv-loop μ-loop
 loop-holds c = (search needs, search needs, search painted-none)
 
 dot-requires : tie.Need-dot-requires Inv-loop μ-loop
-dot-requires c κs = (search needs, (search needs, search holds-is))
+dot-requires c κs = (search needs, search loaded-factors)
 
 cast-out : tie.Need-cast-out Inv-loop μ-loop
 cast-out c = search word-fits

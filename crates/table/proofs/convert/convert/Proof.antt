@@ -2,7 +2,7 @@
 use borrow.Author.Needs.{needs}
 use Rattle.array.proofs.Words.{words-short}
 use Rattle.array.proofs.Padded.{holds-is}
-use Rattle.table.proofs.convert.Laws.{is-square, same-number, converts}
+use Rattle.table.proofs.convert.Laws.{is-rows, same-number, converts}
 use Rattle.table.proofs.convert.convert.Statement.{statement}
 use Rattle.table.proofs.convert.convert.Tie as tie
 
@@ -19,7 +19,7 @@ new-requires : tie.Need-new-requires
 new-requires c κs = search needs
 
 convert-groups-requires : tie.Need-convert-groups-requires
-convert-groups-requires c κs = ((search needs, search needs, search needs), (search is-square, search same-number))
+convert-groups-requires c κs = ((search needs, search needs, search needs), (search is-rows, search same-number))
 
 same-length : tie.Need-same-length
 same-length c = search needs

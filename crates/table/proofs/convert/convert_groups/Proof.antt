@@ -2,7 +2,7 @@
 use borrow.Author.Needs.{needs}
 use Prim.Native.Nat.{_-_}
 use lib.ListN.{length}
-use Rattle.table.proofs.convert.Laws.{Progress, starts, group-ends, output-ends, output-part, part-words, turn, done, keeps-length}
+use Rattle.table.proofs.convert.Laws.{Progress, starts, output-ends, output-part, rest-words, rest-long, turn, done, keeps-length}
 use Rattle.table.proofs.convert.convert_groups.Statement.{statement}
 use Rattle.table.proofs.convert.convert_groups.Tie as tie
 
@@ -28,7 +28,7 @@ part-multiply-start : tie.Need-part-multiply-start Inv-loop μ-loop
 part-multiply-start c = search needs
 
 part-multiply-end : tie.Need-part-multiply-end Inv-loop μ-loop
-part-multiply-end c = search (group-ends, needs)
+part-multiply-end c = search needs
 
 mul-multiply-2 : tie.Need-mul-multiply-2 Inv-loop μ-loop
 mul-multiply-2 c = search needs
@@ -43,7 +43,7 @@ part-multiply-end-2 : tie.Need-part-multiply-end-2 Inv-loop μ-loop
 part-multiply-end-2 c = search (output-ends, needs)
 
 multiply-requires : tie.Need-multiply-requires Inv-loop μ-loop
-multiply-requires c κs = ((search needs, search needs, search output-part), (search needs, search part-words))
+multiply-requires c κs = ((search needs, search needs, search output-part, search rest-long), (search needs, search rest-words))
 
 loop-less : tie.Need-loop-less Inv-loop μ-loop
 loop-less c = search needs
