@@ -22,12 +22,12 @@ use Rattle.quotient.specs.Map.{Undoes}
 use Rattle.quotient.specs.Residue.{power, substitute}
 use Rattle.quotient.proofs.Operations.{power-words, substitute-words}
 use Rattle.bymatrix.specs.ByMatrix.{word, matrixOf}
-use Rattle.bymatrix.specs.Theorem.{oneWhere, identity, column, multiply}
+use Rattle.bymatrix.specs.Theorem.{indicator, identity, column, multiply}
 use Rattle.bymatrix.proofs.Places.{square-same}
 use Rattle.bymatrix.proofs.Products.{matrix-word, row-times}
 
 unfoldable delta : ℕ → ℕ → ℕ
-delta i j = oneWhere (eqb i j)
+delta i j = indicator (eqb i j)
 
 delta-same : (i j : ℕ) → i ≡ j → delta i j ≡ 1
 unfolding delta

@@ -1,5 +1,5 @@
 -- What is proved of conversion by matrix (request S-10: "For every table, matrix and substitution give equal lists, and the matrices of S and R multiply to the identity both ways").
---   oneWhere b              1 where b holds, else 0
+--   indicator b             1 where b holds, else 0
 --   identity n              the matrix with 1 in row i and column i, else 0
 --   column n m j            the n words of column j
 --   multiply p n a b        a·b modulo p: in row i and column j the sum of the products of row i of a with column j of b
@@ -22,12 +22,12 @@ use Rattle.refusal.specs.Refusal.{written}
 use Rattle.table.specs.Table.{converted, tableNumber, Images}
 use Rattle.bymatrix.specs.ByMatrix.{word, square, matrixOf, matrixTimes, byMatrixNumber, byMatrixOutput}
 
-abbrev pub oneWhere : Bool → ℕ
-oneWhere true = 1
-oneWhere false = 0
+abbrev pub indicator : Bool → ℕ
+indicator true = 1
+indicator false = 0
 
 unfoldable pub identity : ℕ → List ℕ
-identity n = square n (λ i j. oneWhere (eqb i j))
+identity n = square n (λ i j. indicator (eqb i j))
 
 unfoldable pub column : ℕ → List ℕ → ℕ → List ℕ
 column n m j = map (λ i. word n m i j) (range 0 n)

@@ -64,7 +64,6 @@ pub record Begins (n : ℕ) (u w : List ℕ) : Type 0 where
   pub words : take n w ≡ take n u
 
 pub record Factors (p n i : ℕ) (m u : List ℕ) : Type 0 where
-  pub matrix-size : length m ≡ 256
   pub size : length u ≡ 16
   pub low : (j : ℕ) → getD u j 0 < wordBound
   pub below : (j : ℕ) → j < n → (entry m i j < p) × (getD u j 0 < p)

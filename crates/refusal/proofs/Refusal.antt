@@ -1,14 +1,16 @@
 -- What it means that none of the refusals 1 to 4 applies (document 01, "Caused by what was sent").
 --   refuse-none                the number is 0: the first condition does not apply, and what comes after it is 0
+--   Follows rest x y           the numbers x and y of a chain of conditions, with 0 and with rest at its end; follows-stays, follows-passes: a number
+--                              stays, whatever comes after it, and where there is none what comes after decides
 --   prime-given, given-prime   1 does not apply exactly to the primes up to 1,048,575
 --   degree-given, given-degree 2 does not apply exactly to 1 to 16
 --   Sent p n xss yss           1 to 4 do not apply to a call with the lists xss that reads yss
 --   sent-given, given-sent     that is so exactly where what comes after them decides
 --   sent-stays                 a number of 1 to 4 stays, whatever comes after them
-use mathlib.Core.Path.{_≡_, refl, ap, ap₂, _∙_}
+use mathlib.Core.Path.{_≡_, refl, ap, ap₂}
 use mathlib.Core.Bool.{Bool, true, false, not, _&&_, and-eq-true-iff}
 use mathlib.Core.List.{List}
-use Prim.Native.Nat.{ℕ, suc, _≤_}
+use Prim.Native.Nat.{ℕ, zero, suc, _≤_}
 use native.Mathlib.Omega.{arith}
 use lib.Dec.{leb}
 use lib.ListN.{length}
@@ -24,6 +26,23 @@ use Rattle.modular.proofs.IsPrime.{prime-of-test, test-of-prime}
 pub refuse-none : (k : ℕ) (b : Bool) (rest : ℕ) → refuse (suc k) b rest ≡ 0 → (b ≡ false) × (rest ≡ 0)
 refuse-none k true rest h = absurd (omega arith)
 refuse-none k false rest h = (refl, h)
+
+-- x and y are the numbers of one chain of conditions, with 0 and with rest at its end: both are what comes there, or the same number
+pub data Follows (rest : ℕ) : ℕ → ℕ → Type 0 where
+  passed : Follows rest zero rest
+  stays : {k : ℕ} → Follows rest (suc k) (suc k)
+
+pub follows-next : {rest x y : ℕ} (k : ℕ) (b : Bool) → Follows rest x y → Follows rest (refuse (suc k) b x) (refuse (suc k) b y)
+follows-next k true h = stays
+follows-next k false h = h
+
+pub follows-stays : {rest x y : ℕ} → Follows rest x y → (number : ℕ) → number ≡ x → (number ≡ 0 → ⊥) → number ≡ y
+follows-stays passed number e h = absurd (h e)
+follows-stays stays number e h = e
+
+pub follows-passes : {rest x y : ℕ} → Follows rest x y → x ≡ 0 → y ≡ rest
+follows-passes passed h = refl
+follows-passes stays h = absurd (omega arith)
 
 pub prime-given : (p : ℕ) → badPrime p ≡ false → Prime p × (p ≤ largestPrime)
 unfolding badPrime
@@ -76,12 +95,5 @@ module _ (p n : ℕ) (xss yss : List (List ℕ)) (rest : ℕ) where
   given-sent h = rw (given-prime p (h .prime) (h .small), given-degree n (h .low) (h .high), given-lengths n xss (h .lengths), given-below p yss (h .below))
 
   pub sent-stays : (number : ℕ) → number ≡ refuseSent p n xss yss 0 → (number ≡ 0 → ⊥) → number ≡ refuseSent p n xss yss rest
-  sent-stays number e h = e ∙ go (badPrime p) (badDegree n) (badLength n xss) (badWord p yss) (λ z. h (e ∙ z))
-    where
-      go : (a b c d : Bool) → (refuse 1 a (refuse 2 b (refuse 3 c (refuse 4 d 0))) ≡ 0 → ⊥)
-          → refuse 1 a (refuse 2 b (refuse 3 c (refuse 4 d 0))) ≡ refuse 1 a (refuse 2 b (refuse 3 c (refuse 4 d rest)))
-      go true b c d f = refl
-      go false true c d f = refl
-      go false false true d f = refl
-      go false false false true f = refl
-      go false false false false f = absurd (f refl)
+  sent-stays number e h =
+      follows-stays (follows-next 0 (badPrime p) (follows-next 1 (badDegree n) (follows-next 2 (badLength n xss) (follows-next 3 (badWord p yss) passed)))) number e h

@@ -1,9 +1,8 @@
 -- The converting call's number, test by test, the products that are written, and what the list holds after the call.
-use mathlib.Core.Path.{_≡_, refl, sym, ap, _∙_}
+use mathlib.Core.Path.{_≡_, sym, ap, _∙_}
 use mathlib.Core.Bool.{Bool, true, false, not, _&&_, and-true}
 use mathlib.Core.List.{List, [], _∷_}
 use Prim.Native.Nat.{ℕ, _*_, _/_, _^_, _≤_}
-use native.Mathlib.Omega.{arith}
 use lib.Dec.{eqb}
 use lib.ListN.{length}
 use Rattle.algebra.specs.Lists.{all}
@@ -12,12 +11,12 @@ use Rattle.array.proofs.Words.{words-length}
 use Rattle.matrix.specs.Matrix.{Rows, matrixProduct}
 use Rattle.modular.specs.Prime.{isPrime}
 use Rattle.refusal.specs.Refusal.{refuse, isDegree, badPrime, badDegree, badLength, badWord}
-use Rattle.refusal.proofs.Refusal.{refuse-none, degree-given}
+use Rattle.refusal.proofs.Refusal.{Follows, passed, follows-next, follows-stays, follows-passes, refuse-none, degree-given}
 use Rattle.refusal.proofs.Written.{output-new, output-old}
 use Rattle.table.specs.Table.{eachGroup, refuseTable, tableNumber}
 use Rattle.table.proofs.Convertible.{table-given}
 use Rattle.table.proofs.Groups.{table-groups, groups-same}
-use Rattle.table.proofs.number.Laws.{lengths-stay, lengths-pass}
+use Rattle.table.proofs.number.Laws.{lengths-follow}
 use Rattle.bymatrix.specs.ByMatrix.{matrixTimes, byMatrix, byMatrixNumber, byMatrixOutput}
 use Rattle.bymatrix.specs.Contracts.{Loaded}
 use Rattle.bymatrix.proofs.Given.{Ready, ready-given}
@@ -25,17 +24,10 @@ use Rattle.bymatrix.proofs.Products.{loaded-rows, loaded-times}
 
 -- 1, 2 and 3, and what comes after them
 
-three-stay : (a b c : Bool) (rest : ℕ) → (refuse 1 a (refuse 2 b (refuse 3 c 0)) ≡ 0 → ⊥) → refuse 1 a (refuse 2 b (refuse 3 c 0)) ≡ refuse 1 a (refuse 2 b (refuse 3 c rest))
-three-stay true b c rest h = refl
-three-stay false true c rest h = refl
-three-stay false false true rest h = refl
-three-stay false false false rest h = absurd (h refl)
-
-three-pass : (a b c : Bool) (rest : ℕ) → refuse 1 a (refuse 2 b (refuse 3 c 0)) ≡ 0 → refuse 1 a (refuse 2 b (refuse 3 c rest)) ≡ rest
-three-pass true b c rest h = absurd (omega arith)
-three-pass false true c rest h = absurd (omega arith)
-three-pass false false true rest h = absurd (omega arith)
-three-pass false false false rest h = refl
+three-follow : (p n rest : ℕ) (m : List ℕ)
+    → Follows rest (refuse 1 (badPrime p) (refuse 2 (badDegree n) (refuse 3 (badLength (n * n) (m ∷ [])) 0)))
+    (refuse 1 (badPrime p) (refuse 2 (badDegree n) (refuse 3 (badLength (n * n) (m ∷ [])) rest)))
+three-follow p n rest m = follows-next 0 (badPrime p) (follows-next 1 (badDegree n) (follows-next 2 (badLength (n * n) (m ∷ [])) passed))
 
 -- w is the length that is asked for
 module _ (p n w model : ℕ) (m table out : List ℕ) (prime degree : Bool) (asked : w ≡ n * n) (is-prime : prime ≡ isPrime p) (is-degree : degree ≡ isDegree n)
@@ -46,7 +38,7 @@ module _ (p n w model : ℕ) (m table out : List ℕ) (prime degree : Bool) (ask
 
   pub model-refused : (model ≡ 0 → ⊥) → model ≡ byMatrixNumber p n m table out
   unfolding byMatrixNumber
-  model-refused h = model-is ∙ three-stay (badPrime p) (badDegree n) (badLength (n * n) (m ∷ [])) _ (λ z. h (model-is ∙ z))
+  model-refused h = follows-stays (three-follow p n _ m) model model-is h
 
   module _ (z : model ≡ 0) where
     pub degree-positive : 1 ≤ n
@@ -57,16 +49,16 @@ module _ (p n w model : ℕ) (m table out : List ℕ) (prime degree : Bool) (ask
 
     after-model : byMatrixNumber p n m table out ≡ refuseTable n table out (refuse 4 (badWord p (m ∷ table ∷ [])) 0)
     unfolding byMatrixNumber
-    after-model = three-pass (badPrime p) (badDegree n) (badLength (n * n) (m ∷ [])) _ (sym model-is ∙ z)
+    after-model = follows-passes (three-follow p n _ m) (sym model-is ∙ z)
 
     module _ (lengths : ℕ) (f : lengths ≡ refuseTable n table out 0) where
       pub lengths-refused : (lengths ≡ 0 → ⊥) → lengths ≡ byMatrixNumber p n m table out
-      lengths-refused h = lengths-stay n lengths table out f _ h ∙ sym after-model
+      lengths-refused h = follows-stays (lengths-follow n _ table out) lengths f h ∙ sym after-model
 
       module _ (y : lengths ≡ 0) (b c : Bool) (g : b ≡ (allBelow p table && true)) (k : c ≡ (allBelow p m && b)) where
         words-decide : byMatrixNumber p n m table out ≡ refuse 4 (not c) 0
         unfolding badWord all
-        words-decide = after-model ∙ lengths-pass n lengths table out f _ y ∙ rw (k, g)
+        words-decide = after-model ∙ follows-passes (lengths-follow n _ table out) (sym f ∙ y) ∙ rw (k, g)
 
         pub words-below : c ≡ true → 0 ≡ byMatrixNumber p n m table out
         words-below h = rw (words-decide, h)

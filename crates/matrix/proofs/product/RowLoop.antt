@@ -100,7 +100,6 @@ module _ (p n i j : ℕ) (m u : List ℕ) (few : p ≤ 2 ^ 20) (short : n ≤ 16
 pub products-factors : (p n k i : ℕ) (m u : List ℕ) → p ≤ 2 ^ 20 → n ≤ k → k ≤ 16 → i < n → Square p k m → Holds p k u → Factors p k i m u
 products-factors p n k i m u few wide short li x y =
     record {
-      matrix-size = x .size;
       size = array-length k u short (y .zeros);
       low = λ j. low j (decLt j k);
       below = λ j l. (x .below i j (omega arith) l, holds-word y j l);

@@ -39,7 +39,6 @@ loaded-done p n i m u v out₀ out h size l l′ e = list-done p n i m (take n u
 pub loaded-factors : (p n i : ℕ) (m u v : List ℕ) → i < n → Rows p n m → n ≤ length v → Words p (length v) v → Begins n v u → Factors p n i m u
 loaded-factors p n i m u v li x long w h =
     record {
-      matrix-size = x .square .size;
       size = h .size;
       low = h .low;
       below = λ j l. (x .square .below i j li l, rw (same j l) (words-at w j (omega arith)));

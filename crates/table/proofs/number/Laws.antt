@@ -1,15 +1,15 @@
 -- What each test of `length_number` and of `table_number` says of the number, in the order of the conditions.
-use mathlib.Core.Path.{_≡_, refl, sym, ap, _∙_}
+use mathlib.Core.Path.{_≡_, sym, ap, _∙_}
 use mathlib.Core.Bool.{Bool, true, false, not, _||_, and-true, or-true}
 use mathlib.Core.List.{List}
 use Prim.Native.Nat.{ℕ, _%_, _≤_, _<_}
-use native.Mathlib.Omega.{arith}
 use borrow.Author.Tests.{le-ltb, lt-ltb, eq-eqb, ne-eqb}
 use lib.Dec.{ltb, eqb}
 use lib.ListN.{length}
 use Rattle.algebra.specs.Lists.{all}
 use Rattle.array.specs.Words.{allBelow}
 use Rattle.refusal.specs.Refusal.{refuse, badWord}
+use Rattle.refusal.proofs.Refusal.{Follows, passed, follows-next, follows-stays, follows-passes}
 use Rattle.table.specs.Table.{mostWords, refuseTable, tableNumber}
 
 -- 9 and 10
@@ -30,32 +30,19 @@ module _ (n : ℕ) (table out : List ℕ) where
 
 -- what comes after them
 
-module _ (n number : ℕ) (table out : List ℕ) (e : number ≡ refuseTable n table out 0) (rest : ℕ) where
-  pub lengths-stay : (number ≡ 0 → ⊥) → number ≡ refuseTable n table out rest
-  lengths-stay h = e ∙ go (ltb mostWords (length table) || not (eqb (length table % n) 0)) (not (eqb (length out) (length table))) (λ z. h (e ∙ z))
-    where
-      go : (a b : Bool) → (refuse 9 a (refuse 10 b 0) ≡ 0 → ⊥) → refuse 9 a (refuse 10 b 0) ≡ refuse 9 a (refuse 10 b rest)
-      go true b f = refl
-      go false true f = refl
-      go false false f = absurd (f refl)
-
-  pub lengths-pass : number ≡ 0 → refuseTable n table out rest ≡ rest
-  lengths-pass h = go (ltb mostWords (length table) || not (eqb (length table % n) 0)) (not (eqb (length out) (length table))) (sym e ∙ h)
-    where
-      go : (a b : Bool) → refuse 9 a (refuse 10 b 0) ≡ 0 → refuse 9 a (refuse 10 b rest) ≡ rest
-      go true b f = absurd (omega arith)
-      go false true f = absurd (omega arith)
-      go false false f = refl
+pub lengths-follow : (n rest : ℕ) (table out : List ℕ) → Follows rest (refuseTable n table out 0) (refuseTable n table out rest)
+lengths-follow n rest table out =
+    follows-next 8 (ltb mostWords (length table) || not (eqb (length table % n) 0)) (follows-next 9 (not (eqb (length out) (length table))) passed)
 
 module _ (p n number : ℕ) (table out : List ℕ) (e : number ≡ refuseTable n table out 0) where
   pub lengths-refused : (number ≡ 0 → ⊥) → number ≡ tableNumber p n table out
   unfolding tableNumber
-  lengths-refused h = lengths-stay n number table out e _ h
+  lengths-refused h = follows-stays (lengths-follow n _ table out) number e h
 
   module _ (z : number ≡ 0) (b : Bool) (f : b ≡ allBelow p table) where
     words-decide : tableNumber p n table out ≡ refuse 4 (not b) 0
     unfolding tableNumber badWord all
-    words-decide = lengths-pass n number table out e _ z ∙ ap (λ x. refuse 4 (not x) 0) (and-true (allBelow p table) ∙ sym f)
+    words-decide = follows-passes (lengths-follow n _ table out) (sym e ∙ z) ∙ ap (λ x. refuse 4 (not x) 0) (and-true (allBelow p table) ∙ sym f)
 
     pub all-below : b ≡ true → 0 ≡ tableNumber p n table out
     all-below h = rw (words-decide, h)
