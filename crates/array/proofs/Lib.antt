@@ -7,3 +7,4 @@ mod Tested
 pub mod Copying
 pub mod Ascending
 pub mod Filling
+pub mod Ranges

@@ -17,7 +17,7 @@ use Rattle.array.proofs.Padded.{words-at}
 use Rattle.array.proofs.Words.{words-same}
 use Rattle.matrix.specs.Matrix.{dot}
 use Rattle.matrix.proofs.PowerMatrix.{dot-substitutes}
-use Rattle.matrix.proofs.Ranges.{range-word, range-words, words-range}
+use Rattle.array.proofs.Ranges.{range-word, range-words, words-range}
 use Rattle.quotient.specs.Map.{Undoes}
 use Rattle.quotient.specs.Residue.{power, substitute}
 use Rattle.quotient.proofs.Operations.{power-words, substitute-words}

@@ -7,7 +7,7 @@ use lib.ListN.{length, length-map}
 use Rattle.algebra.specs.Lists.{range}
 use Rattle.algebra.proofs.Search.{range-length}
 use Rattle.array.specs.Words.{Words}
-use Rattle.matrix.proofs.Ranges.{range-word, range-same, range-words}
+use Rattle.array.proofs.Ranges.{range-word, range-same, range-words}
 use Rattle.bymatrix.specs.ByMatrix.{word, square}
 
 -- the row and the column of a place

@@ -11,7 +11,7 @@ use Rattle.array.proofs.Padded.{words-at}
 use Rattle.array.proofs.Words.{words-length}
 use Rattle.matrix.specs.Matrix.{Powers, Rows, matrixProduct, dot}
 use Rattle.matrix.proofs.PowerMatrix.{row-dot, dot-substitutes}
-use Rattle.matrix.proofs.Ranges.{range-same, range-words, words-range}
+use Rattle.array.proofs.Ranges.{range-same, range-words, words-range}
 use Rattle.quotient.specs.Residue.{power, substitute}
 use Rattle.quotient.proofs.Operations.{power-words, substitute-words}
 use Rattle.bymatrix.specs.ByMatrix.{word, square, matrixOf, matrixTimes}

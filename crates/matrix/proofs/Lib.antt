@@ -1,5 +1,4 @@
 -- The matrices of u ↦ u(S), of u ↦ u·S and of u ↦ u^p by their columns, and the loops that fill arrays.
-pub mod Ranges
 mod Placed
 pub mod MultiplicationMatrix
 pub mod PowerMatrix

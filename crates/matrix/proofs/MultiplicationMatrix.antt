@@ -20,7 +20,7 @@ use Rattle.quotient.proofs.Operations.{constant-zero, scale-words, timesX-words
 use Rattle.quotient.proofs.Ring.{mulResidue, mul-comm}
 use Rattle.quotient.proofs.SumOfPowers.{sum-word, scale-word}
 use Rattle.matrix.specs.Matrix.{multiple, Multiples, matrixProduct}
-use Rattle.matrix.proofs.Ranges.{words-range}
+use Rattle.array.proofs.Ranges.{words-range}
 
 row-zeros : (m : List ℕ) (i j k : ℕ) (u : List ℕ) → rowProduct m i j (u ++ replicate k 0) ≡ rowProduct m i j u
 unfolding rowProduct

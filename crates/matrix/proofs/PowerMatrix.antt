@@ -15,7 +15,7 @@ use Rattle.array.proofs.Words.{words-length}
 use Rattle.array.specs.Array.{padded, Holds, entry, Square, rowProduct}
 use Rattle.matrix.specs.Matrix.{Powers, column, matrixProduct, dot}
 use Rattle.array.proofs.Padded.{words-at}
-use Rattle.matrix.proofs.Ranges.{words-range}
+use Rattle.array.proofs.Ranges.{words-range}
 
 -- the product of a row with u, where f j is the row's word j
 pub row-dot : (m : List ℕ) (i k : ℕ) (u : List ℕ) (f : ℕ → ℕ) → ((j : ℕ) → j < length u → f j ≡ entry m i (k + j)) → rowProduct m i k u ≡ dot f u

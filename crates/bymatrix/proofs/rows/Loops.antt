@@ -13,7 +13,7 @@ use mir.Val.{Fits}
 use Rattle.array.specs.Array.{entry, Square}
 use Rattle.array.specs.Words.{wordBound}
 use Rattle.array.proofs.Painted.{painted, painted-none, painted-turn}
-use Rattle.matrix.proofs.Ranges.{painted-range, zeros-word}
+use Rattle.array.proofs.Ranges.{painted-range, zeros-word}
 use Rattle.bymatrix.specs.ByMatrix.{word, square}
 use Rattle.bymatrix.specs.Contracts.{Loaded}
 use Rattle.bymatrix.proofs.Places.{row-of, column-of, place-below}

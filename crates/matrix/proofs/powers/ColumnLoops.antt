@@ -11,7 +11,7 @@ use Rattle.array.specs.Array.{padded, entry}
 use Rattle.matrix.specs.Matrix.{Placed, column}
 use Rattle.array.proofs.Painted.{painted}
 use Rattle.array.proofs.Painted.{painted-turn}
-use Rattle.matrix.proofs.Ranges.{painted-done}
+use Rattle.array.proofs.Ranges.{painted-done}
 
 -- writing a column
 

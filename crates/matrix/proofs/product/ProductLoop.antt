@@ -9,7 +9,7 @@ use Rattle.array.specs.Array.{padded, rowProduct}
 use Rattle.matrix.specs.Matrix.{matrixProduct}
 use Rattle.array.proofs.Painted.{painted}
 use Rattle.array.proofs.Painted.{painted-turn}
-use Rattle.matrix.proofs.Ranges.{painted-done}
+use Rattle.array.proofs.Ranges.{painted-done}
 
 unfoldable pub productWord : ℕ → List ℕ → List ℕ → ℕ → ℕ
 productWord p m u i = rowProduct m i 0 u % p

@@ -17,7 +17,7 @@ use Rattle.array.proofs.Words.{words-length, words-up, take-words}
 use Rattle.modular.specs.Barrett.{Reduces}
 use Rattle.modular.specs.declared.barrett.Barrett.{Barrett}
 use Rattle.matrix.specs.Matrix.{matrixProduct, Rows, Begins, Factors}
-use Rattle.matrix.proofs.Ranges.{painted-range}
+use Rattle.array.proofs.Ranges.{painted-range}
 use Rattle.matrix.proofs.product.ProductLoop.{productWord}
 use Rattle.matrix.proofs.product.RowLoop.{zero-word}
 

@@ -19,7 +19,7 @@ use Rattle.array.proofs.Words.{words-length, drop-words}
 use Rattle.array.proofs.Padded.{front-is}
 use Rattle.matrix.specs.Matrix.{Powers, Kept, Rows, matrixProduct}
 use Rattle.matrix.proofs.PowerMatrix.{product-substitutes, powers-square}
-use Rattle.matrix.proofs.Ranges.{range-words, zeros-word}
+use Rattle.array.proofs.Ranges.{range-words, zeros-word}
 use Rattle.quotient.specs.Residue.{substitute}
 use Rattle.table.specs.Table.{eachGroup, converted, tableNumber}
 use Rattle.table.proofs.Convertible.{Convertible, table-given}
