@@ -1,0 +1,2 @@
+-- What the proofs of `number` use.
+mod Laws

@@ -1,0 +1,2 @@
+-- What the proofs of `restore` use.
+mod Laws

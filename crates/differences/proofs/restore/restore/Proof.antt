@@ -1,0 +1,39 @@
+-- A refusal leaves the output list alone; else the first words are kept, and to the later ones the earlier are added.
+use borrow.Author.Needs.{needs}
+use Rattle.differences.proofs.Given.{stored-room, stored-positive}
+use Rattle.differences.proofs.restore.Laws.{image-new, image-kept}
+use Rattle.differences.proofs.restore.restore.Statement.{statement}
+use Rattle.differences.proofs.restore.restore.Tie as tie
+
+stored-number-requires : tie.Need-stored-number-requires
+stored-number-requires c κs = search needs
+
+keep-first-requires : tie.Need-keep-first-requires
+keep-first-requires c κs = search stored-room
+
+add-earlier-requires : tie.Need-add-earlier-requires
+add-earlier-requires c κs = (search stored-positive, search needs)
+
+same-length : tie.Need-same-length
+same-length c = search needs
+
+returns : tie.Need-returns
+returns c = (search needs, search image-new)
+
+same-length-2 : tie.Need-same-length-2
+same-length-2 c = search needs
+
+returns-2 : tie.Need-returns-2
+returns-2 c = (search needs, search image-kept)
+
+pub restore-spec : {M : Type 1} → statement M
+restore-spec =
+    tie.close
+    (tie.spec
+    stored-number-requires
+    keep-first-requires
+    add-earlier-requires
+    same-length
+    returns
+    same-length-2
+    returns-2)

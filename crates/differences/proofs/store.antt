@@ -1,0 +1,2 @@
+-- What the proofs of `store` use.
+mod Laws

@@ -1,0 +1,34 @@
+// A table as differences. On a refusal the list lent for them is as found.
+ghost use mathlib.Core.Path.{_≡_};
+ghost use Rattle.differences.specs.Contracts.{Begun};
+ghost use Rattle.differences.specs.Differences.{differences, storedNumber, differencesOutput};
+use crate::earlier::earlier;
+use crate::first::keep_first;
+use crate::number::stored_number;
+use crate::wrapped::minus;
+use array::Word;
+
+// Each word after the first n minus the word of the table n places before.
+fn subtract_earlier(n: usize, table: &[Word], out: &mut [Word])
+    requires { ⌜ Begun n (now table) (now out) ⌝ }
+    ensures { λ _. ⌜ now (out .exit) ≡ differences n (now (table .entry)) ⌝ }
+{
+    let mut k = n;
+    while k < table.len() {
+        out[k] = minus(table[k], earlier(n, k, table));
+        k += 1;
+    }
+}
+
+// The first n words of a table, and each later word minus the word n places before.
+pub fn differences(n: u32, table: &[Word], out: &mut [Word]) -> u32
+    ensures { λ number. ⌜ number ≡ storedNumber n (now (table .entry)) (now (out .entry)) ⌝ }
+    ensures { λ _. ⌜ now (out .exit) ≡ differencesOutput n (now (table .entry)) (now (out .entry)) ⌝ }
+{
+    let number = stored_number(n, table, out);
+    if number == 0 {
+        keep_first(n as usize, table, out);
+        subtract_earlier(n as usize, table, out);
+    }
+    number
+}
