@@ -2,6 +2,7 @@
 use Rattle.answer.proofs.LongInput as Answer
 use Rattle.bymatrix.proofs.Theorem as ByMatrix
 use Rattle.card.proofs.Theorem as Card
+use Rattle.differences.proofs.Theorem as Differences
 use Rattle.runs.proofs.OverC as Values
 use Rattle.finder.proofs.Theorem as Finder
 use Rattle.finder.proofs.Rounds as Rounds
@@ -21,6 +22,7 @@ use Rattle.text.proofs.Theorem as Text
 use Rattle.text.proofs.ColumnDetermines as Columns
 use Rattle.promises.specs.Promises.{Promises}
 use Rattle.promises.proofs.CardExamples as CardExamples
+use Rattle.promises.proofs.DifferencesExamples as DifferencesExamples
 use Rattle.promises.proofs.Examples as Examples
 use Rattle.promises.proofs.LedgerExamples as LedgerExamples
 use Rattle.promises.proofs.MapsExamples as MapsExamples
@@ -93,6 +95,10 @@ promises =
       every-matrix = ByMatrix.every-matrix;
       matrices-are-inverse = ByMatrix.matrices-are-inverse;
       matrix-examples = MatrixExamples.matrix-examples;
+      each-difference = Differences.each-difference;
+      each-restored = Differences.each-restored;
+      every-table-comes-back = Differences.every-table-comes-back;
+      differences-examples = DifferencesExamples.differences-examples;
       values-follow = Values.values-follow;
       examples = Examples.examples;
     }

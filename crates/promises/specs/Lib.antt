@@ -1,4 +1,4 @@
--- All that is promised, the examples of document 01, wide cards, two sheets, two reports, the maps of one pair, the matrices of two, two towers and a table in parts.
+-- All that is promised, the examples of document 01, wide cards, two sheets, two reports, the maps of one pair, the matrices of two, tables as differences, two towers and a table in parts.
 pub mod Promises
 pub mod Examples
 pub mod CardExamples
@@ -6,5 +6,6 @@ pub mod SheetExamples
 pub mod LedgerExamples
 pub mod MapsExamples
 pub mod MatrixExamples
+pub mod DifferencesExamples
 pub mod TowerExamples
 pub mod OpenTableExamples

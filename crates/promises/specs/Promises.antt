@@ -8,6 +8,7 @@
 use Rattle.answer.specs.Theorem.{LongInput}
 use Rattle.bymatrix.specs.Theorem.{MatrixColumns, MatrixIsSubstitution, EveryMatrix, MatricesAreInverse}
 use Rattle.card.specs.Theorem.{WrittenReadsBack, ReadIsWritten, OneMeaning, LongestCard, NarrowAsBefore}
+use Rattle.differences.specs.Theorem.{EachDifference, EachRestored, EveryTableComesBack}
 use Rattle.runs.specs.OverC.{ValuesFollow}
 use Rattle.finder.specs.Rounds.{RoundsDecide, OneTower}
 use Rattle.finder.specs.Scalings.{ScalingsAreCounted}
@@ -28,6 +29,7 @@ use Rattle.runs.specs.Theorem.{EveryRun, RefusalsChangeNothing, GroupByGroup, B
 use Rattle.sheet.specs.Theorem.{SheetHasLength, SheetDetermines}
 use Rattle.text.specs.Theorem.{DecimalIsDecimal, ColumnDetermines}
 use Rattle.promises.specs.CardExamples.{CardExamples}
+use Rattle.promises.specs.DifferencesExamples.{DifferencesExamples}
 use Rattle.promises.specs.Examples.{Examples}
 use Rattle.promises.specs.LedgerExamples.{LedgerExamples}
 use Rattle.promises.specs.MapsExamples.{MapsExamples}
@@ -130,6 +132,12 @@ pub record Promises : Type 0 where
   pub every-matrix : EveryMatrix
   pub matrices-are-inverse : MatricesAreInverse
   pub matrix-examples : MatrixExamples
+  -- Tables stored as differences, request S-11 (differences/specs/Theorem.antt): what each word of a stored table is, and of a restored one; every list of 32-bit words whose length
+  -- is allowed comes back, restored from its differences and stored after it was restored; tables computed (specs/DifferencesExamples.antt)
+  pub each-difference : EachDifference
+  pub each-restored : EachRestored
+  pub every-table-comes-back : EveryTableComesBack
+  pub differences-examples : DifferencesExamples
   -- Over C (runs/specs/OverC.antt): every list of calls makes of a new value one that is taken for the session that it makes of a new session
   pub values-follow : ValuesFollow
   -- Small fields by hand, A to I (specs/Examples.antt)
