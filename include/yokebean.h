@@ -14,7 +14,7 @@
  *    6  T1, or T where a call has one modulus, has a monic divisor of degree 1 to n - 1
  *    7  T2 has one
  *    8  one of the congruences T1(S) = 0 mod T2, T2(R) = 0 mod T1, S(R) = X mod T1, R(S) = X mod T2 fails
- *    9  words to convert: above 16,384 or not a multiple of n; or a part that would bring its table above 4,294,967,295 residues
+ *    9  words of a table or part: above 16,384 or not a multiple of n; or a part that would bring its table above 4,294,967,295 residues
  *   10  output length differs from input length
  *   11  card under 3 bytes, or under 6 where it begins with two zero bytes, or not of its exact length
  *   12  kind is neither 1 nor 2
@@ -83,6 +83,14 @@ uint32_t yokebean_matrices(uint32_t p, uint32_t n, const uint32_t *t1, size_t t1
  * too, the matrix's words must be below p. 1, 2, 3, 9, 10, 4. */
 uint32_t yokebean_matrix_convert(uint32_t p, uint32_t n, const uint32_t *matrix, size_t matrix_len, const uint32_t *table, size_t table_len,
                                  uint32_t *out, size_t out_len);
+
+/* Stores a table as differences: the first n words stay, and each later word becomes itself minus the table's word n places before, modulo 2^32. There
+ * is no p: the words may be any. 2, 9, 10. */
+uint32_t yokebean_differences(uint32_t n, const uint32_t *table, size_t table_len, uint32_t *out, size_t out_len);
+
+/* Restores a table from its differences: the first n words stay, and each later word becomes itself plus the restored word n places before, modulo
+ * 2^32. Each of the two calls undoes the other. 2, 9, 10. */
+uint32_t yokebean_restore(uint32_t n, const uint32_t *table, size_t table_len, uint32_t *out, size_t out_len);
 
 /* The printed sheet of a pair that the checker accepts: T1, T2, S and R, each starting a line with its name in 3 columns; coefficients follow,
  * constant first, eight to a line, right-justified in 7 columns; continued lines begin with 3 blanks, and every line is filled with blanks to
