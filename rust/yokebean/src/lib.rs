@@ -1,6 +1,6 @@
 //! Isomorphisms of finite fields: test a modulus, check a pair, list all maps, find a pair, convert tables through it, whole or in parts, or by the
-//! matrix of a map. Each function passes its slices on to the proved call of the same name in include/yokebean.h, which `rt staticlib capi` builds;
-//! none of them panics, and a refused call leaves every slice as it was.
+//! matrix of a map; and store tables as differences. Each function passes its slices on to the proved call of the same name in include/yokebean.h,
+//! which `rt staticlib capi` builds; none of them panics, and a refused call leaves every slice as it was.
 //!
 //! A model is a prime p up to 1,048,575, a degree n from 1 to 16 and a monic modulus of degree n; its n lower words are passed, constant first.
 //! A residue is n words below p, in the same order.
@@ -231,6 +231,51 @@ pub fn matrix_convert(size: Size, matrix: &[u32], table: &[u32], out: &mut [u32]
     let number = unsafe {
         raw::yokebean_matrix_convert(p, n, matrix.as_ptr(), matrix.len(), table.as_ptr(), table.len(), out.as_mut_ptr(), out.len())
     };
+    answer(number, ())
+}
+
+/// Stores a table as differences: the first n words stay, and each later word becomes itself minus the table's word n places before, modulo 2³².
+/// There is no p: the words may be any. [`restore`] undoes it. Refusals 2, 9, 10.
+///
+/// ```
+/// use yokebean::{differences, Refusal};
+///
+/// let mut out = [0; 6];
+/// differences(2, &[100, 7, 103, 6, 106, 6], &mut out)?;
+/// assert_eq!(out, [100, 7, 3, u32::MAX, 3, 0]); // 6 − 7 is 2³² − 1 modulo 2³²
+///
+/// let mut out = [9; 3];
+/// assert_eq!(differences(17, &[1, 2], &mut out), Err(Refusal::Degree));
+/// assert_eq!(differences(2, &[1, 2, 3], &mut out), Err(Refusal::TableLength));
+/// assert_eq!(differences(2, &[1, 2, 3, 4], &mut out), Err(Refusal::OutputLength));
+/// assert_eq!(out, [9; 3]);
+/// # Ok::<(), Refusal>(())
+/// ```
+pub fn differences(n: u32, table: &[u32], out: &mut [u32]) -> Result<(), Refusal> {
+    let number = unsafe { raw::yokebean_differences(n, table.as_ptr(), table.len(), out.as_mut_ptr(), out.len()) };
+    answer(number, ())
+}
+
+/// Restores a table from its [`differences`]: the first n words stay, and each later word becomes itself plus the restored word n places before,
+/// modulo 2³². Refusals 2, 9, 10.
+///
+/// ```
+/// use yokebean::{differences, restore, Refusal};
+///
+/// let table = [100, 7, 103, 6, 0, u32::MAX];
+/// let (mut stored, mut again) = ([0; 6], [0; 6]);
+/// differences(2, &table, &mut stored)?;
+/// restore(2, &stored, &mut again)?;
+/// assert_eq!(again, table);
+///
+/// assert_eq!(restore(0, &stored, &mut again), Err(Refusal::Degree));
+/// assert_eq!(restore(4, &stored, &mut again), Err(Refusal::TableLength));
+/// assert_eq!(restore(2, &stored, &mut again[..5]), Err(Refusal::OutputLength));
+/// assert_eq!(again, table);
+/// # Ok::<(), Refusal>(())
+/// ```
+pub fn restore(n: u32, table: &[u32], out: &mut [u32]) -> Result<(), Refusal> {
+    let number = unsafe { raw::yokebean_restore(n, table.as_ptr(), table.len(), out.as_mut_ptr(), out.len()) };
     answer(number, ())
 }
 

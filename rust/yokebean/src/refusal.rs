@@ -64,7 +64,7 @@ refusals! {
     6 FirstModulusFactors "T1, or T where a call has one modulus, has a monic divisor of degree 1 to n − 1"
     7 SecondModulusFactors "T2 has a monic divisor of degree 1 to n − 1"
     8 Congruence "one of the four congruences fails"
-    9 TableLength "words to convert: above 16,384 or not a multiple of n; or a part that would bring its table above 4,294,967,295 residues"
+    9 TableLength "words of a table or part: above 16,384 or not a multiple of n; or a part that would bring its table above 4,294,967,295 residues"
     10 OutputLength "output length differs from input length"
     11 CardLength "card under 3 bytes, or under 6 where it begins with two zero bytes, or not of its exact length"
     12 CardKind "kind is neither 1 nor 2"
