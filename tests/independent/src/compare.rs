@@ -2,6 +2,7 @@
 
 pub mod cards;
 mod case;
+pub mod differences;
 pub mod earlier;
 mod known;
 pub mod limits;
@@ -22,7 +23,7 @@ use std::collections::BTreeMap;
 use std::fmt::Debug;
 
 /// The numbers that a call can give. Each must have occurred with it.
-const NUMBERS: [(&str, &[u32]); 34] = [
+const NUMBERS: [(&str, &[u32]); 36] = [
     ("every_p", &[1, 2]),
     ("product", &[0, 1, 2, 3, 4]),
     ("power", &[0, 1, 2, 3, 4]),
@@ -33,6 +34,8 @@ const NUMBERS: [(&str, &[u32]); 34] = [
     ("matrices", &[0, 1, 2, 3, 4, 6, 7, 8]),
     ("matrix_convert", &[0, 1, 2, 3, 9, 10, 4]),
     ("matrix_as_session", &[0]),
+    ("differences", &[0, 2, 9, 10]),
+    ("restore", &[0, 2, 9, 10]),
     ("sheet", &[0, 1, 2, 3, 4, 6, 7, 8]),
     ("find", &[0, 1, 2, 3, 4, 5, 6, 7]),
     ("exchanged", &[0]),

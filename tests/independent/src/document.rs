@@ -2,9 +2,10 @@
 //! methods than the proved code's. Polynomials are multiplied out and divided with remainder; divisors are found by trial division, or by greatest
 //! common divisors where there are too many to try; the finder's values come from sums over conjugates (Lagrange resolvents, Hilbert's Theorem 90
 //! for sums), without solving linear systems; all maps of a pair are found by trying every residue, or are powers of S, sorted; each column of a
-//! matrix is a power by itself; cards are strings of bits.
+//! matrix is a power by itself; tables are restored from differences by sums that do not wrap; cards are strings of bits.
 
 pub mod card;
+pub mod differences;
 pub mod divisor;
 pub mod earlier;
 pub mod eigenvector;
@@ -27,14 +28,17 @@ pub fn is_prime(p: u32) -> bool {
     (2..=1_048_575).contains(&p) && (2..).take_while(|d| d * d <= p).all(|d| p % d != 0)
 }
 
+/// Refusal 2, or 0.
+pub fn degree_number(n: u32) -> u32 {
+    u32::from(!(1..=16).contains(&n)) * 2
+}
+
 /// Refusal 1 or 2, or 0.
 pub fn model_number(p: u32, n: u32) -> u32 {
-    if !is_prime(p) {
-        1
-    } else if !(1..=16).contains(&n) {
-        2
+    if is_prime(p) {
+        degree_number(n)
     } else {
-        0
+        1
     }
 }
 
@@ -52,6 +56,17 @@ pub fn list_number(p: u32, n: u32, read: &[&[u32]], lent: &[&[u32]]) -> u32 {
 /// Refusal 3, or 0, of lists that must have n·n words.
 pub fn square_number(n: u32, lists: &[&[u32]]) -> u32 {
     u32::from(lists.iter().any(|list| list.len() as u64 != u64::from(n) * u64::from(n))) * 3
+}
+
+/// Refusal 9 or 10, or 0, of a table and the list it is written into.
+pub fn table_number(n: u32, table: &[u32], out: &[u32]) -> u32 {
+    if table.len() > 16_384 || table.len() % n as usize != 0 {
+        9
+    } else if out.len() != table.len() {
+        10
+    } else {
+        0
+    }
 }
 
 /// The first that applies among 1 to 4.

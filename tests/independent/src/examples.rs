@@ -1,9 +1,10 @@
 //! Examples A to J of document 01, D as request S-6, F as request S-3 and J as request S-9 has it, the report, the sheet and the maps of A, degrees
-//! that are powers of p, a table in parts under A while D waits, the matrices of A and D, and wide cards, on the independent implementation itself.
+//! that are powers of p, a table in parts under A while D waits, the matrices of A and D, a table as differences, and wide
+//! cards, on the independent implementation itself.
 
 use crate::document::eigenvector::zeta_and_a;
 use crate::document::finder::{self, method, Method};
-use crate::document::{self, card, earlier, is_prime, maps, matrix, model::Model, session::Session, sheet, tower};
+use crate::document::{self, card, differences, earlier, is_prime, maps, matrix, model::Model, session::Session, sheet, tower};
 
 /// A modulus for p = 2, a and α of each round, and P.
 type Tower = (&'static [u32], &'static [[&'static [u32]; 2]], &'static [u32]);
@@ -68,6 +69,20 @@ fn matrices_hold() {
     assert_eq!([&[7, 0, 0, 0][..], &[1; 3]].map(|m| matrix::convert(7, 2, m, &[], &[]).0), [4, 3]);
 }
 
+/// Three groups of two words as differences and again, one group, which stays, none, and the numbers in their order.
+fn differences_hold() {
+    let (table, stored) = ([100, 7, 103, 6, 0, u32::MAX], [100, 7, 3, u32::MAX, u32::MAX - 102, u32::MAX - 6]);
+    assert_eq!(differences::differences(2, &table, &[9; 6]), (0, stored.to_vec()));
+    assert_eq!(differences::restore(2, &stored, &[9; 6]), (0, table.to_vec()));
+    assert_eq!(differences::differences(6, &table, &[9; 6]), (0, table.to_vec()));
+    for call in [differences::differences, differences::restore] {
+        assert_eq!(call(1, &[], &[]), (0, vec![]));
+        let numbers = [(17, 16_385), (16, 16_400), (3, 16_384), (3, 16_383)].map(|(n, length)| call(n, &vec![1; length], &[9]).0);
+        assert_eq!(numbers, [2, 9, 9, 10]);
+        assert_eq!(call(3, &[1; 4], &[9; 3]), (9, vec![9; 3]));
+    }
+}
+
 /// A wide card of the smallest p, with T1 = X + 1 and T2 = X + 65,536 in 17 bits each, and the same header with p = 17; what is too short for it; and
 /// how long cards are.
 fn wide_cards_hold() {
@@ -84,6 +99,7 @@ pub fn hold() {
     towers_hold();
     table_holds();
     matrices_hold();
+    differences_hold();
     wide_cards_hold();
     let pair = finder::pair(3, &[1, 0], &[2, 1]);
     assert_eq!((zeta_and_a(3, 2), &pair.alpha1[..], &pair.alpha2[..]), ((2, 2), &[0, 1][..], &[1, 2][..]));

@@ -18,12 +18,6 @@ fn place(random: &mut Random, list: &[u32]) -> usize {
     random.below(list.len() as u64) as usize
 }
 
-/// One word less or more, none, or twice as many and one.
-fn wrong_length(random: &mut Random, length: usize) -> usize {
-    let wrong = [length + 1, 2 * length + 1, length.saturating_sub(1), 0];
-    wrong[random.below(if length == 0 { 2 } else { 4 }) as usize]
-}
-
 fn identity(n: u32) -> Vec<u32> {
     (0..n * n).map(|place| u32::from(place / n == place % n)).collect()
 }

@@ -1,4 +1,4 @@
-//! Each refusal of a call alone, and each two of them at a time, of which the first in the call's order wins.
+//! Each refusal of a call alone, and each two of them at a time, of which the first in the call's order wins; and lengths that are refused.
 
 use crate::random::Random;
 
@@ -16,5 +16,21 @@ pub fn assert_order<I: Clone>(random: &mut Random, right: &I, order: &[Refusal<I
             refuse(random, &mut input);
             assert_eq!(number(&input), *known, "the numbers {known} and {} apply", order[later].0);
         }
+    }
+}
+
+/// One word less or more, none, or twice as many and one.
+pub fn wrong_length(random: &mut Random, length: usize) -> usize {
+    let wrong = [length + 1, 2 * length + 1, length.saturating_sub(1), 0];
+    wrong[random.below(if length == 0 { 2 } else { 4 }) as usize]
+}
+
+/// In the place of the length of a table, one above 16,384 or, where n is not 1, one that is not a multiple of n.
+pub fn no_table_length(random: &mut Random, n: u32, length: usize) -> usize {
+    let n = n as usize;
+    if n == 1 || random.once_in(3) {
+        (16_384 / n + 1) * n
+    } else {
+        length + 1 + random.below(n as u64 - 1) as usize
     }
 }

@@ -1,7 +1,7 @@
 //! Conversion by matrix of request S-10: a column is a power by itself, and every word of an image is worked out from a row, reduced after each term.
 
 use super::model::Model;
-use super::{check_with_squares, first, model_number, square_number};
+use super::{check_with_squares, first, model_number, square_number, table_number};
 
 /// "Its columns being the powers of S modulo T2", row after row.
 fn of_powers(p: u32, t: &[u32], s: &[u32]) -> Vec<u32> {
@@ -32,10 +32,8 @@ pub fn images(p: u32, n: u32, matrix: &[u32], table: &[u32]) -> Vec<u32> {
 
 /// The number, and what the output list holds after the call.
 pub fn convert(p: u32, n: u32, matrix: &[u32], table: &[u32], out: &[u32]) -> (u32, Vec<u32>) {
-    let table_length = || u32::from(table.len() > 16_384 || table.len() % n as usize != 0) * 9;
-    let output_length = || u32::from(out.len() != table.len()) * 10;
     let large_word = || u32::from(matrix.iter().chain(table).any(|&word| word >= p)) * 4;
-    match first(&[&|| model_number(p, n), &|| square_number(n, &[matrix]), &table_length, &output_length, &large_word]) {
+    match first(&[&|| model_number(p, n), &|| square_number(n, &[matrix]), &|| table_number(n, table, out), &large_word]) {
         0 => (0, images(p, n, matrix, table)),
         refusal => (refusal, out.to_vec()),
     }

@@ -1,9 +1,9 @@
 //! The call that builds the two matrices.
 
-use super::{identity, place, transposed, wrong_length, NO_PRIMES};
+use super::{identity, place, transposed, NO_PRIMES};
 use crate::compare::case::{damage, draw, half_conjugate, Case};
 use crate::compare::known::changed_word;
-use crate::compare::order::{assert_order, Refusal};
+use crate::compare::order::{assert_order, wrong_length, Refusal};
 use crate::compare::Tally;
 use crate::document::{matrix as document, model::Model};
 use crate::library;

@@ -1,9 +1,9 @@
 //! The call that converts a table by a matrix.
 
 use super::build::built;
-use super::{identity, place, wrong_length, NO_PRIMES};
+use super::{identity, place, NO_PRIMES};
 use crate::compare::case::Case;
-use crate::compare::order::{assert_order, Refusal};
+use crate::compare::order::{assert_order, no_table_length, wrong_length, Refusal};
 use crate::compare::Tally;
 use crate::document::matrix as document;
 use crate::library::{self, number};
@@ -80,16 +80,6 @@ fn not_a_degree(random: &mut Random, input: &mut Input) {
     input.n = 17;
 }
 
-/// Above 16,384 words or, where n is not 1, not a multiple of n.
-fn not_a_table(random: &mut Random, input: &mut Input) {
-    let n = input.n as usize;
-    if n == 1 || random.once_in(3) {
-        input.resize((16_384 / n + 1) * n);
-    } else {
-        input.resize(input.table.len() + 1 + random.below(n as u64 - 1) as usize);
-    }
-}
-
 /// In the matrix or in the table.
 fn large_word(random: &mut Random, input: &mut Input) {
     let list = if random.once_in(2) { &mut input.matrix } else { &mut input.table };
@@ -102,7 +92,7 @@ pub fn in_order(random: &mut Random, p: u32, n: u32, tally: &mut Tally) {
         (1, not_prime),
         (2, not_a_degree),
         (3, |random, input| input.matrix.resize(wrong_length(random, input.matrix.len()), 0)),
-        (9, not_a_table),
+        (9, |random, input| input.resize(no_table_length(random, input.n, input.table.len()))),
         (10, |random, input| input.length = wrong_length(random, input.length)),
         (4, large_word),
     ];
