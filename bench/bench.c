@@ -5,7 +5,7 @@
 #include <stdio.h>
 #include <string.h>
 
-const peer *const peers[PEERS] = {&ours, &session, &pari, &flint, &flint_columns, &ntl, &plain, &plain_card};
+const peer *const peers[PEERS] = {&ours, &session, &pari, &flint, &flint_columns, &ntl, &plain, &plain_card, &plain_differences, &copy};
 
 int does(const peer *who, int what, uint32_t n) {
     const work *w = &who->works[what];
@@ -88,13 +88,29 @@ static const row by_matrix[] = {
     {"BY MATRIX one residue", BY_MATRIX, 65521, 16, .single = 1},
 };
 
+static const row differences[] = {
+    {"DIFFERENCES", DIFFERENCES, 0, 1},
+    {"DIFFERENCES", DIFFERENCES, 0, 2},
+    {"DIFFERENCES", DIFFERENCES, 0, 3},
+    {"DIFFERENCES", DIFFERENCES, 0, 4},
+    {"DIFFERENCES", DIFFERENCES, 0, 8},
+    {"DIFFERENCES", DIFFERENCES, 0, 16},
+    {"RESTORE", RESTORE, 0, 1},
+    {"RESTORE", RESTORE, 0, 2},
+    {"RESTORE", RESTORE, 0, 3},
+    {"RESTORE", RESTORE, 0, 4},
+    {"RESTORE", RESTORE, 0, 8},
+    {"RESTORE", RESTORE, 0, 16},
+};
+
 static const struct {
-    const char *columns[PEERS];
+    const char *label, *columns[PEERS];
     const row *rows;
     size_t count;
 } tables[] = {
-    {{"PARI", "FLINT", "NTL", "plain C"}, rows, sizeof rows / sizeof *rows},
-    {{"session", "FLINT", "FLINT columns", "NTL", "plain C"}, by_matrix, sizeof by_matrix / sizeof *by_matrix},
+    {"work, p, n", {"PARI", "FLINT", "NTL", "plain C"}, rows, sizeof rows / sizeof *rows},
+    {"work, p, n", {"session", "FLINT", "FLINT columns", "NTL", "plain C"}, by_matrix, sizeof by_matrix / sizeof *by_matrix},
+    {"work, n", {"memcpy", "plain C"}, differences, sizeof differences / sizeof *differences},
 };
 enum { TABLES = sizeof tables / sizeof *tables };
 
@@ -107,10 +123,10 @@ static size_t compare_rows(const row *first, size_t count) {
     return count;
 }
 
-static void print_times(const char *const *columns, const row *first, size_t count) {
+static void print_times(const char *label, const char *const *columns, const row *first, size_t count) {
     static inputs in;
     times all[PEERS];
-    print_header(columns);
+    print_header(label, columns);
     for (const row *r = first; r < first + count; r++) {
         choose(r, &in);
         print_row(columns, r, all, time_row(r, &in, all));
@@ -128,7 +144,7 @@ int main(int count, char **arguments) {
     for (size_t t = 0; t < TABLES; t++) {
         if (t)
             printf("\n");
-        print_times(tables[t].columns, tables[t].rows, tables[t].count);
+        print_times(tables[t].label, tables[t].columns, tables[t].rows, tables[t].count);
     }
     return 0;
 }

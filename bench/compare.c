@@ -7,8 +7,10 @@
 #include <stdlib.h>
 #include <string.h>
 
-static const char *const names[WORKS] = {"FIND",    "CHECK", "IRREDUCIBLE", "MAPS",        "MATRICES",     "CONVERT", "BY MATRIX",
-                                         "product", "power", "substitute",  "read a card", "write a card", "power",   "power"};
+static const char *const names[WORKS] = {
+    "FIND",    "CHECK",   "IRREDUCIBLE", "MAPS",       "MATRICES",    "CONVERT",      "BY MATRIX", "DIFFERENCES",
+    "RESTORE", "product", "power",       "substitute", "read a card", "write a card", "power",     "power",
+};
 
 static void fail(const inputs *in, int what, size_t k, const char *why, ...) {
     va_list rest;
@@ -100,7 +102,7 @@ static void compare_words(const inputs *in, int what) {
     static uint32_t own[LARGEST_TABLE], other[LARGEST_TABLE];
     ours.prepare(in);
     for (size_t i = 1; i < PEERS; i++)
-        if (does(peers[i], what, in->n)) {
+        if (does(peers[i], what, in->n) && peers[i]->works[what].answer) {
             peers[i]->prepare(in);
             for (size_t k = 0; k < in->jobs; k++) {
                 size_t count = answer(in, &ours, what, k, own);
@@ -114,6 +116,10 @@ static void compare_words(const inputs *in, int what) {
 }
 
 void compare(const inputs *in) {
+    if (!in->p) {
+        compare_words(in, DIFFERENCES), compare_words(in, RESTORE);
+        return;
+    }
     compare_found(in);
     compare_refused(in);
     compare_moduli(in);

@@ -48,10 +48,7 @@ static void complete(inputs *in, job *j) {
 
 /* Sixteen different pairs of moduli, or all that there are: a thousand draws meet each of the nine pairs of p = 3, n = 2 and of p = 2, n = 4, and
  * the one pair of p = 2, n = 2. */
-void choose(const row *which, inputs *in) {
-    memset(in, 0, sizeof *in);
-    in->p = which->p, in->n = which->n, in->words = which->single ? in->n : LARGEST_TABLE / in->n * in->n;
-    state = 88172645463325252ull + in->p * 32 + in->n;
+static void choose_models(inputs *in) {
     size_t width = 0;
     while ((in->p - 1) >> width)
         width++;
@@ -64,7 +61,17 @@ void choose(const row *which, inputs *in) {
             in->jobs++;
         }
     }
-    random_words(in->p, in->words, in->table);
+}
+
+void choose(const row *which, inputs *in) {
+    memset(in, 0, sizeof *in);
+    in->p = which->p, in->n = which->n, in->words = which->single ? in->n : LARGEST_TABLE / in->n * in->n;
+    state = 88172645463325252ull + in->p * 32 + in->n;
+    if (in->p)
+        choose_models(in);
+    else
+        in->jobs = 1;
+    random_words(in->p ? in->p : UINT32_MAX, in->words, in->table);
 }
 
 /* A monic factor with its leading 1, irreducible or any. */

@@ -14,7 +14,7 @@ static uint8_t bytes[LARGEST_CARD];
 
 static void prepare(const inputs *given) {
     in = given, p = in->p, n = in->n;
-    for (size_t k = 0; k < in->jobs; k++) {
+    for (size_t k = 0; p && k < in->jobs; k++) {
         const job *j = &in->job[k];
         yokebean_step step = yokebean_session_load(yokebean_session_new(), p, n, j->t1, n, j->t2, n);
         paired[k] = yokebean_session_propose(step.session, j->s, n, j->r, n).session;
@@ -47,6 +47,9 @@ static void matrices(size_t k) {
 static void convert(size_t k) { number = yokebean_session_forward(paired[k], in->table, in->words, image, in->words).number; }
 
 static void by_matrix(size_t k) { number = yokebean_matrix_convert(p, n, forward[k], n * n, in->table, in->words, image, in->words); }
+
+static void differences(size_t k) { number = yokebean_differences(n, in->table, in->words, image, in->words); }
+static void restore(size_t k) { number = yokebean_restore(n, in->table, in->words, image, in->words); }
 
 static void product(size_t k) {
     const job *j = &in->job[k];
@@ -103,9 +106,9 @@ static size_t card_written(uint32_t *out) {
 
 const peer ours = {"ours", prepare, {
     [FIND] = {find, pair}, [CHECK] = {check, accepted}, [IRREDUCIBLE] = {irreducible, accepted}, [MAPS] = {maps, residues},
-    [MATRICES] = {matrices, both}, [CONVERT] = {convert, table}, [BY_MATRIX] = {by_matrix, table}, [PRODUCT] = {product, residue},
-    [POWER] = {power, residue}, [SUBSTITUTE] = {substitute, residue}, [READ] = {read_card, card_read},
-    [WRITE] = {write_card, card_written}, [LONG] = {long_power, residue}, [SHORT] = {short_power, residue},
+    [MATRICES] = {matrices, both}, [CONVERT] = {convert, table}, [BY_MATRIX] = {by_matrix, table}, [DIFFERENCES] = {differences, table},
+    [RESTORE] = {restore, table}, [PRODUCT] = {product, residue}, [POWER] = {power, residue}, [SUBSTITUTE] = {substitute, residue},
+    [READ] = {read_card, card_read}, [WRITE] = {write_card, card_written}, [LONG] = {long_power, residue}, [SHORT] = {short_power, residue},
 }};
 
 const peer session = {"session", prepare, {[BY_MATRIX] = {convert, table}}};

@@ -172,7 +172,7 @@ const work none = {nullptr, nullptr};
 
 extern "C" const peer ntl = {"NTL", prepare, {
     /* FIND */ none, /* CHECK */ {check, accepted}, /* IRREDUCIBLE */ {irreducible, accepted}, /* MAPS */ {maps, residues, ROOTS_UP_TO},
-    /* MATRICES */ {matrices, both}, /* CONVERT */ {convert, converted}, /* BY_MATRIX */ {convert, converted}, /* PRODUCT */ {product, residue},
-    /* POWER */ {power, residue}, /* SUBSTITUTE */ {substitute, residue}, /* READ */ none, /* WRITE */ none, /* LONG */ none,
-    /* SHORT */ none,
+    /* MATRICES */ {matrices, both}, /* CONVERT */ {convert, converted}, /* BY_MATRIX */ {convert, converted}, /* DIFFERENCES */ none,
+    /* RESTORE */ none, /* PRODUCT */ {product, residue}, /* POWER */ {power, residue}, /* SUBSTITUTE */ {substitute, residue}, /* READ */ none,
+    /* WRITE */ none, /* LONG */ none, /* SHORT */ none,
 }};

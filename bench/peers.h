@@ -22,7 +22,8 @@ typedef struct {
     uint8_t card[LARGEST_CARD];
 } job;
 
-/* The inputs of a row: jobs with one p and n, and a table that all of them convert. */
+/* The inputs of a row: jobs with one p and n, and a table that all of them convert. Where p is 0, the work has no p and the one job no models, and the
+ * table's words may be any. */
 typedef struct {
     uint32_t p, n;
     size_t jobs, words, card_length;
@@ -38,6 +39,8 @@ typedef struct {
  *   MATRICES     of an accepted pair, the matrix of the powers of S modulo T2, then that of the powers of R modulo T1, row after row
  *   CONVERT      the table's image
  *   BY_MATRIX    the same, the matrix of the powers of S being ready
+ *   DIFFERENCES  the table as differences
+ *   RESTORE      the table that has the table's words for its differences
  *   PRODUCT      u·v modulo T2
  *   POWER        u^EXPONENT modulo T2
  *   SUBSTITUTE   u(S) modulo T2
@@ -45,12 +48,13 @@ typedef struct {
  *   WRITE        the bytes of a card
  *   LONG         u^(2^60) modulo T2
  *   SHORT        u^(2^12) modulo T2, which takes BETWEEN products fewer */
-enum { FIND, CHECK, IRREDUCIBLE, MAPS, MATRICES, CONVERT, BY_MATRIX, PRODUCT, POWER, SUBSTITUTE, READ, WRITE, LONG, SHORT, WORKS };
+enum { FIND, CHECK, IRREDUCIBLE, MAPS, MATRICES, CONVERT, BY_MATRIX, DIFFERENCES, RESTORE, PRODUCT, POWER, SUBSTITUTE, READ, WRITE, LONG, SHORT, WORKS };
 enum { BETWEEN = 60 - 12 };
 
 /* `run` does the work of the k-th job and keeps the answer in the peer's own form, where the compiler cannot tell that nobody reads it;
- * `answer` writes that answer as words and gives their number, 0 if there is none. Both are null where a peer lacks the work. `most`, where it
- * is not 0, is the highest degree in which the peer takes part; in higher ones it takes too long. */
+ * `answer` writes that answer as words and gives their number, 0 if there is none. Both are null where a peer lacks the work, and `answer` alone
+ * where it does another, which is timed beside and not compared. `most`, where it is not 0, is the highest degree in which the peer takes part; in
+ * higher ones it takes too long. */
 typedef struct {
     void (*run)(size_t k);
     size_t (*answer)(uint32_t *words);
@@ -63,8 +67,9 @@ typedef struct {
     work works[WORKS];
 } peer;
 
-/* `session` is our session's conversion, and `flint_columns` FLINT with a residue in each column of its table, both beside a conversion by matrix. */
-extern const peer ours, session, pari, flint, flint_columns, ntl, plain, plain_card;
+/* `session` is our session's conversion, and `flint_columns` FLINT with a residue in each column of its table, both beside a conversion by matrix;
+ * `copy` copies the table by memcpy, beside differences. */
+extern const peer ours, session, pari, flint, flint_columns, ntl, plain, plain_card, plain_differences, copy;
 
 /* PARI's test of X^n + t. */
 int is_irreducible(uint32_t p, uint32_t n, const uint32_t *t);

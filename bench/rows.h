@@ -4,7 +4,7 @@
 
 #include "peers.h"
 
-/* A work with its p and n. `single`: one residue is converted, and not a full table; `inside`: our product is timed inside a power. */
+/* A work with its p, 0 where it has none, and n. `single`: one residue is converted, and not a full table; `inside`: our product is timed inside a power. */
 typedef struct {
     const char *name;
     int work;
@@ -19,7 +19,7 @@ typedef struct {
 } times;
 
 /* Our library comes first. */
-enum { PEERS = 8 };
+enum { PEERS = 10 };
 extern const peer *const peers[PEERS];
 
 /* Whether a peer does a work in degree n. */
@@ -30,8 +30,8 @@ void choose_reducible(const inputs *, inputs *);
 void compare(const inputs *);
 size_t time_row(const row *, const inputs *, times *);
 
-/* The columns are the names of peers, with a null after the last. */
-void print_header(const char *const *columns);
+/* `label` says what a row begins with. The columns are the names of peers, with a null after the last. */
+void print_header(const char *label, const char *const *columns);
 void print_row(const char *const *columns, const row *, const times *, size_t);
 
 #endif

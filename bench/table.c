@@ -15,8 +15,8 @@ static void show_ratio(char *out, size_t length, double ratio) {
     snprintf(out, length, " **%.*f**", ratio < 0.01 ? 4 : ratio < 0.1 ? 3 : ratio < 10 ? 2 : 1, ratio);
 }
 
-void print_header(const char *const *columns) {
-    printf("| %-*s | %-*s |", LABEL, "work, p, n", OWN, ours.name);
+void print_header(const char *label, const char *const *columns) {
+    printf("| %-*s | %-*s |", LABEL, label, OWN, ours.name);
     for (const char *const *column = columns; *column; column++)
         printf(" %-*s |", WIDTH, *column);
     printf("\n|---|---|");
@@ -27,7 +27,10 @@ void print_header(const char *const *columns) {
 
 void print_row(const char *const *columns, const row *which, const times *all, size_t count) {
     char cell[64];
-    snprintf(cell, sizeof cell, "%s %u, %u", which->name, which->p, which->n);
+    if (which->p)
+        snprintf(cell, sizeof cell, "%s %u, %u", which->name, which->p, which->n);
+    else
+        snprintf(cell, sizeof cell, "%s %u", which->name, which->n);
     printf("| %-*s |", LABEL, cell);
     show(cell, sizeof cell, &all[0]);
     printf(" %-*s |", OWN, cell);

@@ -51,8 +51,8 @@ size_t time_row(const row *which, const inputs *in, times *out) {
     size_t count = 0;
     for (size_t i = 0; i < PEERS; i++) {
         int what = peers[i] == &ours && which->inside ? LONG : which->work;
-        peers[i]->prepare(in);
         if (does(peers[i], what, in->n)) {
+            peers[i]->prepare(in);
             out[count].name = peers[i]->name;
             all[count++].run = peers[i]->works[what].run;
         }
