@@ -7,6 +7,7 @@ use Rattle.refusal.specs.Refusal.{refuse, badDegree, largestDegree, written}
 use Rattle.refusal.proofs.Refusal.{refuse-none, degree-given, given-degree}
 use Rattle.table.specs.Table.{refuseTable}
 use Rattle.table.proofs.Convertible.{Lengths, lengths-passed, passed-lengths}
+use Rattle.differences.specs.Contracts.{Whole}
 use Rattle.differences.specs.Differences.{differences, restored, storedNumber, differencesOutput, restoreOutput}
 
 pub stored-given : (n : ℕ) (table out : List ℕ) → storedNumber n table out ≡ 0 → ((1 ≤ n) × (n ≤ largestDegree)) × Lengths n table out
@@ -17,11 +18,14 @@ stored-given n table out h =
 
 -- the same for a number that is 0
 
-pub stored-room : (n number : ℕ) (table out : List ℕ) → number ≡ storedNumber n table out → number ≡ 0 → length out ≡ length table
-stored-room n number table out e z = stored-given n table out (sym e ∙ z) .1 .lengths
+module _ (n number : ℕ) (table out : List ℕ) (e : number ≡ storedNumber n table out) (z : number ≡ 0) where
+  pub stored-whole : Whole n table out
+  stored-whole =
+      let (degree, lengths) = stored-given n table out (sym e ∙ z) in
+      record { low = degree .0; high = degree .1; few = lengths .few; groups = lengths .groups; room = lengths .lengths }
 
-pub stored-positive : (n number : ℕ) (table out : List ℕ) → number ≡ storedNumber n table out → number ≡ 0 → 1 ≤ n
-stored-positive n number table out e z = stored-given n table out (sym e ∙ z) .0 .0
+  pub stored-room : length out ≡ length table
+  stored-room = stored-whole .room
 
 pub given-stored : (n : ℕ) (table out : List ℕ) → 1 ≤ n → n ≤ largestDegree → Lengths n table out → storedNumber n table out ≡ 0
 unfolding storedNumber

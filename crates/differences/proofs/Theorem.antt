@@ -1,13 +1,12 @@
 -- The proofs of what is promised of tables stored as differences.
-use mathlib.Core.Path.{_≡_, refl, sym, ap, _∙_}
+use mathlib.Core.Path.{_≡_, refl, sym, _∙_}
 use mathlib.Core.List.{List}
-use Prim.Native.Nat.{ℕ, _+_, _-_, _%_, _≤_, _<_}
+use Prim.Native.Nat.{ℕ, _-_, _<_}
 use lib.ListN.{length, getD}
-use Rattle.array.specs.Words.{Words, wordBound}
+use Rattle.array.specs.Words.{wordBound}
 use Rattle.array.proofs.Padded.{words-at}
-use Rattle.table.proofs.Convertible.{Lengths}
-use Rattle.differences.specs.Differences.{minus, differences, restored, storedNumber, differencesOutput, restoreOutput}
-use Rattle.differences.specs.Theorem.{Allowed, Each, ComesBack, EachDifference, EachRestored, EveryTableComesBack}
+use Rattle.differences.specs.Differences.{differences, restored, storedNumber}
+use Rattle.differences.specs.Theorem.{Allowed, EachDifference, EachRestored, EveryTableComesBack}
 use Rattle.differences.proofs.Back.{differences-restored, restored-differences}
 use Rattle.differences.proofs.Given.{given-stored, differences-written, restored-written}
 use Rattle.differences.proofs.Words.{differences-length, differences-first, differences-later, restored-length, restored-first, restored-later}

@@ -115,6 +115,17 @@ module _ (n : ℕ) (table : List ℕ) where
       ∙ sym (Nat.add-mod-mod (getD table k 0) (wholeSum (k - n)) wordBound)
       ∙ ap (λ x. (getD table k 0 + x) % wordBound) (sym (restored-word (k - n) (omega arith)))
 
+  -- by the sum of the column so far
+
+  pub restored-start : (k : ℕ) → k < n → k < length table → (0 + getD table k 0) % wordBound ≡ getD (restored n table) k 0
+  restored-start k l h = ap (λ x. x % wordBound) (Nat.zero-add (getD table k 0) ∙ sym (sum-first k l)) ∙ sym (restored-word k h)
+
+  pub restored-next : (k : ℕ) → 1 ≤ n → k + n < length table → (getD (restored n table) k 0 + getD table (k + n) 0) % wordBound ≡ getD (restored n table) (k + n) 0
+  restored-next k low h =
+      let earlier : k + n - n ≡ k = omega arith in
+      ap (λ x. x % wordBound) (Nat.add-comm (getD (restored n table) k 0) (getD table (k + n) 0) ∙ ap (λ i. getD table (k + n) 0 + getD (restored n table) i 0) (sym earlier))
+      ∙ sym (restored-later (k + n) low (omega arith) h)
+
   pub restored-first : (k : ℕ) → k < n → k < length table → getD table k 0 < wordBound → getD (restored n table) k 0 ≡ getD table k 0
   restored-first k l h small = restored-word k h ∙ ap (λ x. x % wordBound) (sum-first k l) ∙ Nat.mod-eq-of-lt small
 

@@ -2,11 +2,11 @@
 //   number     the refusals of both calls
 //   store      the public call `differences`
 //   restore    the public call `restore`
-//   first      the first n words, which both calls keep
-//   earlier    the word n places before another
+//   columns    the columns of a table, restored one by one and four by four
+//   four       four words that stand side by side: sums, and where they are stored
 //   wrapped    sums and differences of words, wrapped at 32 bits
-mod earlier;
-mod first;
+mod columns;
+mod four;
 mod number;
 pub mod restore;
 pub mod store;

@@ -1,6 +1,6 @@
--- A refusal leaves the output list alone; else the first words are kept, and to the later ones the earlier are added.
+-- A refusal leaves the output list alone; else the table is restored.
 use borrow.Author.Needs.{needs}
-use Rattle.differences.proofs.Given.{stored-room, stored-positive}
+use Rattle.differences.proofs.Given.{stored-whole}
 use Rattle.differences.proofs.restore.Laws.{image-new, image-kept}
 use Rattle.differences.proofs.restore.restore.Statement.{statement}
 use Rattle.differences.proofs.restore.restore.Tie as tie
@@ -8,11 +8,8 @@ use Rattle.differences.proofs.restore.restore.Tie as tie
 stored-number-requires : tie.Need-stored-number-requires
 stored-number-requires c κs = search needs
 
-keep-first-requires : tie.Need-keep-first-requires
-keep-first-requires c κs = search stored-room
-
-add-earlier-requires : tie.Need-add-earlier-requires
-add-earlier-requires c κs = (search stored-positive, search needs)
+restore-table-requires : tie.Need-restore-table-requires
+restore-table-requires c κs = search stored-whole
 
 same-length : tie.Need-same-length
 same-length c = search needs
@@ -31,8 +28,7 @@ restore-spec =
     tie.close
     (tie.spec
     stored-number-requires
-    keep-first-requires
-    add-earlier-requires
+    restore-table-requires
     same-length
     returns
     same-length-2

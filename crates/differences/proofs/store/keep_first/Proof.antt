@@ -5,8 +5,8 @@ use Prim.Native.Nat.{_-_}
 use lib.ListN.{length}
 use Rattle.differences.specs.Contracts.{Begun}
 use Rattle.differences.proofs.Begun.{begun-none, begun-turn, begun-few, begun-all}
-use Rattle.differences.proofs.first.keep_first.Statement.{statement}
-use Rattle.differences.proofs.first.keep_first.Tie as tie
+use Rattle.differences.proofs.store.keep_first.Statement.{statement}
+use Rattle.differences.proofs.store.keep_first.Tie as tie
 
 abbrev Inv-loop : tie.InvT-loop
 Inv-loop n table out₀ k₀ out k = (length out ≡ length table) × Begun k table out

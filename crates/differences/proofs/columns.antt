@@ -1,0 +1,5 @@
+-- What the proofs of `columns` use.
+mod Places
+mod Rows
+mod Sums
+mod Laws

@@ -1,0 +1,2 @@
+-- What the proofs of `four` use.
+mod Laws
