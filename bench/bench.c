@@ -94,12 +94,14 @@ static const row differences[] = {
     {"DIFFERENCES", DIFFERENCES, 0, 3},
     {"DIFFERENCES", DIFFERENCES, 0, 4},
     {"DIFFERENCES", DIFFERENCES, 0, 8},
+    {"DIFFERENCES", DIFFERENCES, 0, 15},
     {"DIFFERENCES", DIFFERENCES, 0, 16},
     {"RESTORE", RESTORE, 0, 1},
     {"RESTORE", RESTORE, 0, 2},
     {"RESTORE", RESTORE, 0, 3},
     {"RESTORE", RESTORE, 0, 4},
     {"RESTORE", RESTORE, 0, 8},
+    {"RESTORE", RESTORE, 0, 15},
     {"RESTORE", RESTORE, 0, 16},
 };
 

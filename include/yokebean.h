@@ -84,13 +84,13 @@ uint32_t yokebean_matrices(uint32_t p, uint32_t n, const uint32_t *t1, size_t t1
 uint32_t yokebean_matrix_convert(uint32_t p, uint32_t n, const uint32_t *matrix, size_t matrix_len, const uint32_t *table, size_t table_len,
                                  uint32_t *out, size_t out_len);
 
-/* Stores a table as differences: the first n words stay, and each later word becomes itself minus the table's word n places before, modulo 2^32. There
- * is no p: the words may be any. 2, 9, 10. */
+/* The differences of a table: the first n words stay, and each later word becomes itself minus the table's word n places before, modulo 2^32. There is
+ * no p: the words may have any values. 2, 9, 10. */
 uint32_t yokebean_differences(uint32_t n, const uint32_t *table, size_t table_len, uint32_t *out, size_t out_len);
 
-/* Restores a table from its differences: the first n words stay, and each later word becomes itself plus the restored word n places before, modulo
+/* The table that has these differences: the first n words stay, and each later word becomes itself plus the restored word n places before, modulo
  * 2^32. Each of the two calls undoes the other. 2, 9, 10. */
-uint32_t yokebean_restore(uint32_t n, const uint32_t *table, size_t table_len, uint32_t *out, size_t out_len);
+uint32_t yokebean_restore(uint32_t n, const uint32_t *differences, size_t differences_len, uint32_t *out, size_t out_len);
 
 /* The printed sheet of a pair that the checker accepts: T1, T2, S and R, each starting a line with its name in 3 columns; coefficients follow,
  * constant first, eight to a line, right-justified in 7 columns; continued lines begin with 3 blanks, and every line is filled with blanks to

@@ -234,8 +234,8 @@ pub fn matrix_convert(size: Size, matrix: &[u32], table: &[u32], out: &mut [u32]
     answer(number, ())
 }
 
-/// Stores a table as differences: the first n words stay, and each later word becomes itself minus the table's word n places before, modulo 2³².
-/// There is no p: the words may be any. [`restore`] undoes it. Refusals 2, 9, 10.
+/// The differences of a table: the first n words stay, and each later word becomes itself minus the table's word n places before, modulo 2³².
+/// There is no p: the words may have any values. [`restore`] undoes it. Refusals 2, 9, 10.
 ///
 /// ```
 /// use yokebean::{differences, Refusal};
@@ -256,7 +256,7 @@ pub fn differences(n: u32, table: &[u32], out: &mut [u32]) -> Result<(), Refusal
     answer(number, ())
 }
 
-/// Restores a table from its [`differences`]: the first n words stay, and each later word becomes itself plus the restored word n places before,
+/// The table that has these [`differences`]: the first n words stay, and each later word becomes itself plus the restored word n places before,
 /// modulo 2³². Refusals 2, 9, 10.
 ///
 /// ```
@@ -274,8 +274,8 @@ pub fn differences(n: u32, table: &[u32], out: &mut [u32]) -> Result<(), Refusal
 /// assert_eq!(again, table);
 /// # Ok::<(), Refusal>(())
 /// ```
-pub fn restore(n: u32, table: &[u32], out: &mut [u32]) -> Result<(), Refusal> {
-    let number = unsafe { raw::yokebean_restore(n, table.as_ptr(), table.len(), out.as_mut_ptr(), out.len()) };
+pub fn restore(n: u32, differences: &[u32], out: &mut [u32]) -> Result<(), Refusal> {
+    let number = unsafe { raw::yokebean_restore(n, differences.as_ptr(), differences.len(), out.as_mut_ptr(), out.len()) };
     answer(number, ())
 }
 

@@ -75,7 +75,7 @@ extern "C" {
     pub fn yokebean_matrices(p: u32, n: u32, t1: Words, t1_len: usize, t2: Words, t2_len: usize, s: Words, s_len: usize, r: Words, r_len: usize, forward: Lent, forward_len: usize, back: Lent, back_len: usize) -> u32;
     pub fn yokebean_matrix_convert(p: u32, n: u32, matrix: Words, matrix_len: usize, table: Words, table_len: usize, out: Lent, out_len: usize) -> u32;
     pub fn yokebean_differences(n: u32, table: Words, table_len: usize, out: Lent, out_len: usize) -> u32;
-    pub fn yokebean_restore(n: u32, table: Words, table_len: usize, out: Lent, out_len: usize) -> u32;
+    pub fn yokebean_restore(n: u32, differences: Words, differences_len: usize, out: Lent, out_len: usize) -> u32;
     pub fn yokebean_sheet(p: u32, n: u32, t1: Words, t1_len: usize, t2: Words, t2_len: usize, s: Words, s_len: usize, r: Words, r_len: usize, out: *mut u8, out_len: usize) -> u32;
     pub fn yokebean_sheet_length(n: u32) -> usize;
     pub fn yokebean_find(p: u32, n: u32, t1: Words, t1_len: usize, t2: Words, t2_len: usize, s: Lent, s_len: usize, r: Lent, r_len: usize) -> u32;
