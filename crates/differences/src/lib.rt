@@ -2,10 +2,12 @@
 //   number     the refusals of both calls
 //   store      the public call `differences`
 //   restore    the public call `restore`
-//   columns    the columns of a table, restored one by one and four by four
+//   columns    the columns of a table, restored one by one, four by four and eight by eight
 //   four       four words that stand side by side: sums, and where they are stored
+//   eight      eight words, likewise
 //   wrapped    sums and differences of words, wrapped at 32 bits
 mod columns;
+mod eight;
 mod four;
 mod number;
 pub mod restore;

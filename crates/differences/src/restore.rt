@@ -2,20 +2,23 @@
 ghost use mathlib.Core.Path.{_≡_};
 ghost use Rattle.differences.specs.Contracts.{Whole};
 ghost use Rattle.differences.specs.Differences.{restored, storedNumber, restoreOutput};
+use crate::columns::restore_by_eights;
 use crate::columns::restore_by_fours;
 use crate::columns::restore_singly;
 use crate::number::stored_number;
 use array::Word;
 
-// The table, where no refusal applies: its columns four by four, or one by one where there are fewer.
+// The table, where no refusal applies: its columns eight by eight, four by four or one by one, as many of them as there are.
 fn restore_table(n: usize, table: &[Word], out: &mut [Word])
     requires { ⌜ Whole n (now table) (now out) ⌝ }
     ensures { λ _. ⌜ now (out .exit) ≡ restored n (now (table .entry)) ⌝ }
 {
     if n < 4 {
         restore_singly(n, table, out);
-    } else {
+    } else if n < 8 {
         restore_by_fours(n, table, out);
+    } else {
+        restore_by_eights(n, table, out);
     }
 }
 

@@ -1,15 +1,16 @@
 -- The loops down one column and down four, turn by turn, and those over the columns.
 --   Done n j xs out     in the columns below j, out has the words of xs
-use mathlib.Core.Path.{_≡_, refl, sym, ap, _∙_}
-use mathlib.Core.List.{List, [], _∷_}
+use mathlib.Core.Path.{_≡_, sym, ap, ap₂, _∙_}
+use mathlib.Core.List.{List, [], _∷_, _++_}
 use mathlib.Core.Logic.{inl}
-use Prim.Native.Nat.{ℕ, zero, suc, _+_, _-_, _%_, _≤_, _<_}
+use Prim.Native.Nat.{ℕ, suc, _+_, _-_, _%_, _≤_, _<_}
 use native.Mathlib.Decide.{decLt}
 use native.Mathlib.Nat as Nat
 use native.Mathlib.Omega.{arith}
-use lib.ListN.{length, getD, set}
+use lib.ListN.{length, getD, set, replicate}
 use lib.Seq.{sets, ext-getD}
 use Rattle.array.specs.Words.{wordBound}
+use Rattle.array.proofs.Ranges.{zeros-word}
 use Rattle.differences.specs.Contracts.{Whole, added, Columns}
 use Rattle.differences.specs.Differences.{restored}
 use Rattle.differences.proofs.Words.{restored-length}
@@ -19,11 +20,7 @@ use Rattle.differences.proofs.columns.Sums.{Restoring, restoring-none, 
 -- down one
 
 pub one-none : (n j : ℕ) (table out : List ℕ) → Whole n table out → j < n → Restoring n j table (0 ∷ []) j out out
-one-none n j table out h l = restoring-none n j table (0 ∷ []) out (omega arith) (omega arith) zeros (h .room)
-  where
-    zeros : (c : ℕ) → getD {A = ℕ} (0 ∷ []) c 0 ≡ 0
-    zeros zero = refl
-    zeros (suc c) = refl
+one-none n j table out h l = restoring-none n j table (replicate 1 0) out (omega arith) (omega arith) (zeros-word 1) (h .room)
 
 module _ (n j k s : ℕ) (table out₀ out : List ℕ) (h : Whole n table out₀) (wide : j < n) (here : k < length table)
     (restoring : Restoring n j table (s ∷ []) k out₀ out) where
@@ -38,14 +35,7 @@ one-end n j k s table out₀ out h end = columns-end n j k table (s ∷ []) out�
 -- down four
 
 pub four-none : (n j : ℕ) (table out : List ℕ) → Whole n table out → j + 4 ≤ n → Restoring n j table (0 ∷ 0 ∷ 0 ∷ 0 ∷ []) j out out
-four-none n j table out h wide = restoring-none n j table (0 ∷ 0 ∷ 0 ∷ 0 ∷ []) out wide (omega arith) zeros (h .room)
-  where
-    zeros : (c : ℕ) → getD {A = ℕ} (0 ∷ 0 ∷ 0 ∷ 0 ∷ []) c 0 ≡ 0
-    zeros zero = refl
-    zeros (suc zero) = refl
-    zeros (suc (suc zero)) = refl
-    zeros (suc (suc (suc zero))) = refl
-    zeros (suc (suc (suc (suc c)))) = refl
+four-none n j table out h wide = restoring-none n j table (replicate 4 0) out wide (omega arith) (zeros-word 4) (h .room)
 
 module _ (n j k a b c d : ℕ) (table out₀ out : List ℕ) (h : Whole n table out₀) (wide : j + 4 ≤ n) (here : k < length table)
     (restoring : Restoring n j table (a ∷ b ∷ c ∷ d ∷ []) k out₀ out) where
@@ -64,6 +54,38 @@ module _ (n j k a b c d : ℕ) (table out₀ out : List ℕ) (h : Whole n table 
 pub four-end : (n j k a b c d : ℕ) (table out₀ out : List ℕ) → Restoring n j table (a ∷ b ∷ c ∷ d ∷ []) k out₀ out → length table ≤ k
     → Columns n j 4 (length table) (restored n table) out₀ out
 four-end n j k a b c d table out₀ out h end = columns-end n j k table (a ∷ b ∷ c ∷ d ∷ []) out₀ out h end
+
+-- down eight
+
+pub eight-none : (n j : ℕ) (table out : List ℕ) → Whole n table out → j + 8 ≤ n → Restoring n j table (0 ∷ 0 ∷ 0 ∷ 0 ∷ 0 ∷ 0 ∷ 0 ∷ 0 ∷ []) j out out
+eight-none n j table out h wide = restoring-none n j table (replicate 8 0) out wide (omega arith) (zeros-word 8) (h .room)
+
+module _ (n j k a b c d e f g i : ℕ) (table out₀ out : List ℕ) (h : Whole n table out₀) (wide : j + 8 ≤ n) (here : k < length table)
+    (restoring : Restoring n j table (a ∷ b ∷ c ∷ d ∷ e ∷ f ∷ g ∷ i ∷ []) k out₀ out) where
+  pub eight-inside : k + 7 < length table
+  eight-inside = omega (arith, row-fits n k j (restoring .column) 8 (length table) (h .low) wide (h .groups) here)
+
+  pub eight-room : k + 7 < length out
+  eight-room = rw (restoring .room) eight-inside
+
+  module _ (a′ b′ c′ d′ e′ f′ g′ i′ : ℕ) (left : a′ ∷ b′ ∷ c′ ∷ d′ ∷ [] ≡ added k table (a ∷ b ∷ c ∷ d ∷ []))
+      (right : e′ ∷ f′ ∷ g′ ∷ i′ ∷ [] ≡ added (k + 4) table (e ∷ f ∷ g ∷ i ∷ [])) where
+    four-on : k + 4 ≡ suc (suc (suc (suc k)))
+    four-on = omega arith
+
+    eight-added : a′ ∷ b′ ∷ c′ ∷ d′ ∷ e′ ∷ f′ ∷ g′ ∷ i′ ∷ [] ≡ added k table (a ∷ b ∷ c ∷ d ∷ e ∷ f ∷ g ∷ i ∷ [])
+    unfolding added
+    eight-added = ap₂ _++_ left (right ∙ ap (λ x. added x table (e ∷ f ∷ g ∷ i ∷ [])) four-on)
+
+    pub eight-turn : (out′ : List ℕ) → out′ ≡ sets (sets out k (a′ ∷ b′ ∷ c′ ∷ d′ ∷ [])) (k + 4) (e′ ∷ f′ ∷ g′ ∷ i′ ∷ [])
+        → Restoring n j table (a′ ∷ b′ ∷ c′ ∷ d′ ∷ e′ ∷ f′ ∷ g′ ∷ i′ ∷ []) (k + n) out₀ out′
+    eight-turn out′ stored =
+        rw (stored, four-on)
+        (restoring-turn n j k table (a ∷ b ∷ c ∷ d ∷ e ∷ f ∷ g ∷ i ∷ []) (a′ ∷ b′ ∷ c′ ∷ d′ ∷ e′ ∷ f′ ∷ g′ ∷ i′ ∷ []) (h .low) wide (h .groups) here eight-added out₀ out restoring)
+
+pub eight-end : (n j k a b c d e f g i : ℕ) (table out₀ out : List ℕ) → Restoring n j table (a ∷ b ∷ c ∷ d ∷ e ∷ f ∷ g ∷ i ∷ []) k out₀ out → length table ≤ k
+    → Columns n j 8 (length table) (restored n table) out₀ out
+eight-end n j k a b c d e f g i table out₀ out h end = columns-end n j k table (a ∷ b ∷ c ∷ d ∷ e ∷ f ∷ g ∷ i ∷ []) out₀ out h end
 
 -- over the columns
 
@@ -98,17 +120,13 @@ pub columns-length : (n c w : ℕ) (table out out′ : List ℕ) → Columns n c
     → length out′ ≡ length table
 columns-length n c w table out out′ new room = new .size ∙ room
 
--- one by one
-pub one-more : (n j : ℕ) (table out out′ : List ℕ) → Done n j (restored n table) out → Columns n j 1 (length table) (restored n table) out out′
-    → Done n (j + 1) (restored n table) out′
-one-more n j table out out′ done new = done-more n j j 1 (j + 1) table out out′ done (omega arith) (omega arith) new
+-- w columns from column j on
+pub done-next : (n j w : ℕ) (table out out′ : List ℕ) → Done n j (restored n table) out → Columns n j w (length table) (restored n table) out out′
+    → Done n (j + w) (restored n table) out′
+done-next n j w table out out′ done new = done-more n j j w (j + w) table out out′ done (omega arith) (omega arith) new
 
--- four by four, and the last four
-pub four-more : (n j : ℕ) (table out out′ : List ℕ) → Done n j (restored n table) out → Columns n j 4 (length table) (restored n table) out out′
-    → Done n (j + 4) (restored n table) out′
-four-more n j table out out′ done new = done-more n j j 4 (j + 4) table out out′ done (omega arith) (omega arith) new
-
-pub last-four : (n j : ℕ) (table out₀ out out′ : List ℕ) → Whole n table out₀ → 4 ≤ n → n ≤ j + 4 → Done n j (restored n table) out
-    → Columns n (n - 4) 4 (length table) (restored n table) out out′ → out′ ≡ restored n table
-last-four n j table out₀ out out′ h wide end done new =
-    done-all n n table out₀ out′ h (Nat.le-refl n) (done-more n j (n - 4) 4 n table out out′ done (omega arith) (omega arith) new)
+-- the last w columns
+pub done-last : (n j w : ℕ) (table out₀ out out′ : List ℕ) → Whole n table out₀ → w ≤ n → n ≤ j + w → Done n j (restored n table) out
+    → Columns n (n - w) w (length table) (restored n table) out out′ → out′ ≡ restored n table
+done-last n j w table out₀ out out′ h wide end done new =
+    done-all n n table out₀ out′ h (Nat.le-refl n) (done-more n j (n - w) w n table out out′ done (omega arith) (omega arith) new)

@@ -4,7 +4,7 @@ use mathlib.Core.Path.{_≡_}
 use Prim.Native.Nat.{_-_, _≤_}
 use lib.ListN.{length}
 use Rattle.differences.specs.Differences.{restored}
-use Rattle.differences.proofs.columns.Laws.{Done, done-none, whole-now, columns-length, four-more, last-four}
+use Rattle.differences.proofs.columns.Laws.{Done, done-none, whole-now, columns-length, done-next, done-last}
 use Rattle.differences.proofs.columns.restore_by_fours.Statement.{statement}
 use Rattle.differences.proofs.columns.restore_by_fours.Tie as tie
 
@@ -30,7 +30,7 @@ loop-less : tie.Need-loop-less Inv-loop μ-loop
 loop-less c = search needs
 
 loop-again : tie.Need-loop-again Inv-loop μ-loop
-loop-again c = (search needs, search columns-length, search four-more)
+loop-again c = (search needs, search columns-length, search done-next)
 
 sub-restore-four : tie.Need-sub-restore-four Inv-loop μ-loop
 sub-restore-four c = search needs
@@ -42,7 +42,7 @@ same-length : tie.Need-same-length Inv-loop μ-loop
 same-length c = search needs
 
 returns : tie.Need-returns Inv-loop μ-loop
-returns c = search last-four
+returns c = search done-last
 
 pub restore-by-fours-spec : {M : Type 1} → statement M
 restore-by-fours-spec =

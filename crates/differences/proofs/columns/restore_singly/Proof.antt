@@ -4,7 +4,7 @@ use mathlib.Core.Path.{_≡_}
 use Prim.Native.Nat.{_-_}
 use lib.ListN.{length}
 use Rattle.differences.specs.Differences.{restored}
-use Rattle.differences.proofs.columns.Laws.{Done, done-none, whole-now, columns-length, one-more, done-all}
+use Rattle.differences.proofs.columns.Laws.{Done, done-none, whole-now, columns-length, done-next, done-all}
 use Rattle.differences.proofs.columns.restore_singly.Statement.{statement}
 use Rattle.differences.proofs.columns.restore_singly.Tie as tie
 
@@ -27,7 +27,7 @@ loop-less : tie.Need-loop-less Inv-loop μ-loop
 loop-less c = search needs
 
 loop-again : tie.Need-loop-again Inv-loop μ-loop
-loop-again c = (search columns-length, search one-more)
+loop-again c = (search columns-length, search done-next)
 
 same-length : tie.Need-same-length Inv-loop μ-loop
 same-length c = search needs

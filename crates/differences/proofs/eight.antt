@@ -1,0 +1,2 @@
+-- What the proofs of `eight` use.
+mod Laws
