@@ -55,7 +55,7 @@ module _ (h : Held) (e : isPaired (view h) ≡ true) where
   -- a table of up to 16,384 words has as many residues at most
   pub residues-few : (table out : List ℕ) → tableNumber (h .p) (h .n) table out ≡ 0 → length table / h .n ≤ 16384
   residues-few table out t =
-      omega (arith, degree-positive, Nat.div-le-self (length table) (h .n), Convertible.table-given (h .p) (h .n) table out t .few)
+      omega (arith, degree-positive, Nat.div-le-self (length table) (h .n), Convertible.table-given (h .p) (h .n) table out t .sizes .few)
 
 -- the number, by the tests of the code
 module _ (x : Work) (k : ℕ) (table out : List ℕ) (i : ℕ) (e : i ≡ stateNumber x) where

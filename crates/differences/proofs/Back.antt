@@ -27,32 +27,32 @@ module _ (n : ℕ) (table : List ℕ) (positive : 1 ≤ n) (words : (k : ℕ) �
       go (yes l) = rw (differences-first n table k l) (words k h)
       go (no l) = rw (differences-later n table k (omega arith) h) (minus-below (word k) (word (k - n)))
 
-  restored-word : (k : ℕ) → k < length table → Dec (k < n) → (n ≤ k → getD (restored n stored) (k - n) 0 ≡ word (k - n))
+  word-back : (k : ℕ) → k < length table → Dec (k < n) → (n ≤ k → getD (restored n stored) (k - n) 0 ≡ word (k - n))
       → getD (restored n stored) k 0 ≡ word k
-  restored-word k h (yes l) earlier =
+  word-back k h (yes l) earlier =
       restored-first n stored k l (rw (differences-length n table) h) (stored-below k h) ∙ differences-first n table k l
-  restored-word k h (no l) earlier =
+  word-back k h (no l) earlier =
       restored-later n stored k positive (omega arith) (rw (differences-length n table) h)
       ∙ ap₂ (λ a b. (a + b) % wordBound) (differences-later n table k (omega arith) h) (earlier (omega arith))
       ∙ minus-plus (word k) (word (k - n)) (words k h) (words (k - n) (omega arith))
 
   -- the words below b, each by those before it
-  restored-words : (b k : ℕ) → k < b → k < length table → getD (restored n stored) k 0 ≡ word k
-  restored-words zero k below h = absurd (omega arith)
-  restored-words (suc b) k below h = restored-word k h (decLt k n) (λ l. restored-words b (k - n) (omega arith) (omega arith))
+  words-back : (b k : ℕ) → k < b → k < length table → getD (restored n stored) k 0 ≡ word k
+  words-back zero k below h = absurd (omega arith)
+  words-back (suc b) k below h = word-back k h (decLt k n) (λ l. words-back b (k - n) (omega arith) (omega arith))
 
   pub differences-restored : restored n (differences n table) ≡ table
   differences-restored =
       let size : length (restored n stored) ≡ length table = restored-length n stored ∙ differences-length n table in
-      ext-getD 0 (restored n stored) table size (λ k h. restored-words (suc k) k (omega arith) (omega (arith, size)))
+      ext-getD 0 (restored n stored) table size (λ k h. words-back (suc k) k (omega arith) (omega (arith, size)))
 
   -- restored, then differences
 
   abbrev sums : List ℕ
   sums = restored n table
 
-  stored-words : (k : ℕ) → k < length table → getD (differences n sums) k 0 ≡ word k
-  stored-words k h = go (decLt k n)
+  sums-back : (k : ℕ) → k < length table → getD (differences n sums) k 0 ≡ word k
+  sums-back k h = go (decLt k n)
     where
       go : Dec (k < n) → getD (differences n sums) k 0 ≡ word k
       go (yes l) = differences-first n sums k l ∙ restored-first n table k l h (words k h)
@@ -64,4 +64,4 @@ module _ (n : ℕ) (table : List ℕ) (positive : 1 ≤ n) (words : (k : ℕ) �
   pub restored-differences : differences n (restored n table) ≡ table
   restored-differences =
       let size : length (differences n sums) ≡ length table = differences-length n sums ∙ restored-length n table in
-      ext-getD 0 (differences n sums) table size (λ k h. stored-words k (omega (arith, size)))
+      ext-getD 0 (differences n sums) table size (λ k h. sums-back k (omega (arith, size)))

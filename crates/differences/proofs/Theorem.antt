@@ -5,7 +5,7 @@ use Prim.Native.Nat.{ℕ, _-_, _<_}
 use lib.ListN.{length, getD}
 use Rattle.array.specs.Words.{wordBound}
 use Rattle.array.proofs.Padded.{words-at}
-use Rattle.differences.specs.Differences.{differences, restored, storedNumber}
+use Rattle.differences.specs.Differences.{differences, restored, differencesNumber}
 use Rattle.differences.specs.Theorem.{Allowed, EachDifference, EachRestored, EveryTableComesBack}
 use Rattle.differences.proofs.Back.{differences-restored, restored-differences}
 use Rattle.differences.proofs.Given.{given-stored, differences-written, restored-written}
@@ -22,7 +22,7 @@ each-difference n table out h =
 
 module _ {n : ℕ} {table : List ℕ} (a : Allowed n table) where
   -- a list of the table's length, sent in its place with a list of this length for its image
-  accepts : (image out : List ℕ) → length image ≡ length table → length out ≡ length table → storedNumber n image out ≡ 0
+  accepts : (image out : List ℕ) → length image ≡ length table → length out ≡ length table → differencesNumber n image out ≡ 0
   accepts image out size room =
       given-stored n image out (a .degree .0) (a .degree .1) (
       record {
@@ -46,7 +46,7 @@ each-restored n table out a room =
 
 pub every-table-comes-back : EveryTableComesBack
 every-table-comes-back n table out other a room room′ =
-    let number : storedNumber n table out ≡ 0 = accepts a table out refl room in
+    let number : differencesNumber n table out ≡ 0 = accepts a table out refl room in
     record {
       accepted = number;
       restores = rw (differences-written n table out number) (

@@ -12,7 +12,7 @@ use Rattle.algebra.specs.Lists.{range}
 use Rattle.algebra.proofs.Search.{range-length}
 use Rattle.array.specs.Words.{wordBound}
 use Rattle.array.proofs.Ranges.{range-word, range-same}
-use Rattle.differences.specs.Differences.{minus, differences, total, restored}
+use Rattle.differences.specs.Differences.{minus, differences, sumOf, restored}
 use Rattle.differences.proofs.Cancel.{wrapped-below}
 
 -- differences
@@ -80,7 +80,7 @@ module _ (n : ℕ) (table : List ℕ) where
   back k i = getD table (k - i * n) 0
 
   abbrev wholeSum : ℕ → ℕ
-  wholeSum k = total (map (back k) (range 0 (k / n + 1)))
+  wholeSum k = sumOf (map (back k) (range 0 (k / n + 1)))
 
   pub restored-length : length (restored n table) ≡ length table
   unfolding restored
@@ -91,21 +91,21 @@ module _ (n : ℕ) (table : List ℕ) where
   restored-word k h = range-word (λ i. wholeSum i % wordBound) 0 (length table) k h ∙ ap (λ i. wholeSum i % wordBound) (Nat.zero-add k)
 
   sum-first : (k : ℕ) → k < n → wholeSum k ≡ getD table k 0
-  unfolding total range
+  unfolding sumOf range
   sum-first k l =
       let here : k - 0 * n ≡ k = omega arith in
-      ap (λ q. total (map (back k) (range 0 (q + 1)))) (Nat.div-eq-of-lt l) ∙ Nat.add-zero (back k 0) ∙ ap (λ i. getD table i 0) here
+      ap (λ q. sumOf (map (back k) (range 0 (q + 1)))) (Nat.div-eq-of-lt l) ∙ Nat.add-zero (back k 0) ∙ ap (λ i. getD table i 0) here
 
-  -- n places before k one place less is to go back
+  -- the words n, 2·n, … places before word k are those 0, n, … places before word k − n
   before : (k q : ℕ) → map (back k) (range 1 q) ≡ map (back (k - n)) (range 0 q)
   before k q = shifted (back k) 0 q ∙ range-same (λ i. back k (suc i)) (back (k - n)) 0 q (λ i l. ap (λ j. getD table j 0) (omega arith))
 
   sum-later : (k : ℕ) → 1 ≤ n → n ≤ k → wholeSum k ≡ getD table k 0 + wholeSum (k - n)
-  unfolding total range
+  unfolding sumOf range
   sum-later k low h =
       let here : k - 0 * n ≡ k = omega arith in
-      ap (λ q. total (map (back k) (range 0 q))) (add-one (k / n) ∙ ap suc (Nat.div-eq-sub-div low h))
-      ∙ ap₂ _+_ (ap (λ i. getD table i 0) here) (ap total (before k ((k - n) / n + 1)))
+      ap (λ q. sumOf (map (back k) (range 0 q))) (add-one (k / n) ∙ ap suc (Nat.div-eq-sub-div low h))
+      ∙ ap₂ _+_ (ap (λ i. getD table i 0) here) (ap sumOf (before k ((k - n) / n + 1)))
 
   pub restored-later : (k : ℕ) → 1 ≤ n → n ≤ k → k < length table
       → getD (restored n table) k 0 ≡ (getD table k 0 + getD (restored n table) (k - n) 0) % wordBound

@@ -3,3 +3,4 @@ mod Places
 mod Rows
 mod Sums
 mod Laws
+mod Across

@@ -1,14 +1,16 @@
 -- The words of the contracts between this crate's functions; no public call's contract rests on them.
 --   Begun k xs w              w has as many words as xs, and the first k of them are those of xs
---   Whole n table out         n is 1 to 16, the table has whole groups of n words, not too many, and out has its length
---   added k table sums        to each of the sums, one after another, the words of the table from word k on are added, wrapped at 32 bits
---   Columns n j w k xs old out    below k, in the columns j to j + w − 1, out has the words of xs; in the other columns it has those of old
+--   Whole n table out         n is 1 to 16, the table has at most 16,384 words, in whole groups of n, and out has its length
+--   added k table sums        each sum c plus word k + c of the table, wrapped at 32 bits
+--   Columns n j w k xs old out    in the columns j to j + w − 1, out has the words of xs at the places before k; in the other columns it has those of old
 use mathlib.Core.Path.{_≡_}
 use mathlib.Core.List.{List, [], _∷_}
 use mathlib.Core.Logic.{_⊎_}
 use Prim.Native.Nat.{ℕ, suc, _+_, _%_, _≤_, _<_}
 use lib.ListN.{length, getD}
 use Rattle.array.specs.Words.{wordBound}
+use Rattle.refusal.specs.Refusal.{largestDegree}
+use Rattle.table.specs.Table.{mostWords}
 
 pub record Begun (k : ℕ) (xs w : List ℕ) : Type 0 where
   pub size : length w ≡ length xs
@@ -16,8 +18,8 @@ pub record Begun (k : ℕ) (xs w : List ℕ) : Type 0 where
 
 pub record Whole (n : ℕ) (table out : List ℕ) : Type 0 where
   pub low : 1 ≤ n
-  pub high : n ≤ 16
-  pub few : length table ≤ 16384
+  pub high : n ≤ largestDegree
+  pub few : length table ≤ mostWords
   pub groups : length table % n ≡ 0
   pub room : length out ≡ length table
 

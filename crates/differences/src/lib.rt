@@ -3,7 +3,7 @@
 //   store      the public call `differences`
 //   restore    the public call `restore`
 //   columns    the columns of a table, restored one by one, four by four and eight by eight
-//   four       four words that stand side by side: sums, and where they are stored
+//   four       four words that stand side by side, added to and stored together
 //   eight      eight words, likewise
 //   wrapped    sums and differences of words, wrapped at 32 bits
 mod columns;

@@ -1,13 +1,13 @@
 // The refusals of both calls.
 ghost use mathlib.Core.Path.{_≡_};
-ghost use Rattle.differences.specs.Differences.{storedNumber};
+ghost use Rattle.differences.specs.Differences.{differencesNumber};
 use array::Word;
 use refusal::sent::is_degree;
 use table::number::length_number;
 
 // 2, 9 and 10, 0 where none applies.
-pub fn stored_number(n: u32, table: &[Word], out: &[Word]) -> u32
-    ensures { λ r. ⌜ r ≡ storedNumber n (now (table .entry)) (now (out .entry)) ⌝ }
+pub fn differences_number(n: u32, table: &[Word], out: &[Word]) -> u32
+    ensures { λ r. ⌜ r ≡ differencesNumber n (now (table .entry)) (now (out .entry)) ⌝ }
 {
     if !is_degree(n) {
         return 2;

@@ -3,8 +3,8 @@ ghost use mathlib.Core.Path.{_≡_};
 ghost use Prim.Native.Nat.{_-_, _≤_, _<_};
 ghost use lib.ListN.{length, getD};
 ghost use Rattle.differences.specs.Contracts.{Begun};
-ghost use Rattle.differences.specs.Differences.{differences, storedNumber, differencesOutput};
-use crate::number::stored_number;
+ghost use Rattle.differences.specs.Differences.{differences, differencesNumber, differencesOutput};
+use crate::number::differences_number;
 use crate::wrapped::minus;
 use array::Word;
 
@@ -42,10 +42,10 @@ fn subtract_earlier(n: usize, table: &[Word], out: &mut [Word])
 
 // The first n words of a table, and each later word minus the word n places before.
 pub fn differences(n: u32, table: &[Word], out: &mut [Word]) -> u32
-    ensures { λ number. ⌜ number ≡ storedNumber n (now (table .entry)) (now (out .entry)) ⌝ }
+    ensures { λ number. ⌜ number ≡ differencesNumber n (now (table .entry)) (now (out .entry)) ⌝ }
     ensures { λ _. ⌜ now (out .exit) ≡ differencesOutput n (now (table .entry)) (now (out .entry)) ⌝ }
 {
-    let number = stored_number(n, table, out);
+    let number = differences_number(n, table, out);
     if number == 0 {
         keep_first(n as usize, table, out);
         subtract_earlier(n as usize, table, out);

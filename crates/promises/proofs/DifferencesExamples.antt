@@ -4,11 +4,11 @@ use borrow.Author.Tests.{eq-eqb}
 use lib.ListN.{length}
 use Rattle.algebra.specs.Lists.{range}
 use Rattle.refusal.specs.Refusal.{isDegree, badDegree}
-use Rattle.differences.specs.Differences.{minus, differences, total, restored, storedNumber, differencesOutput, restoreOutput}
+use Rattle.differences.specs.Differences.{minus, differences, sumOf, restored, differencesNumber, differencesOutput, restoreOutput}
 use Rattle.promises.specs.DifferencesExamples.{DifferencesExamples}
 
 pub differences-examples : DifferencesExamples
-unfolding range isDegree badDegree minus differences total restored storedNumber differencesOutput restoreOutput
+unfolding range isDegree badDegree minus differences sumOf restored differencesNumber differencesOutput restoreOutput
 differences-examples =
     record {
       stored = λ out e. rw (eq-eqb (length out) 6 e);

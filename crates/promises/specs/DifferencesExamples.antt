@@ -3,7 +3,7 @@ use mathlib.Core.Path.{_≡_}
 use mathlib.Core.List.{List, [], _∷_}
 use Prim.Native.Nat.{ℕ}
 use lib.ListN.{length}
-use Rattle.differences.specs.Differences.{storedNumber, differencesOutput, restoreOutput}
+use Rattle.differences.specs.Differences.{differencesNumber, differencesOutput, restoreOutput}
 
 pub record DifferencesExamples : Type 0 where
   -- three groups of 2 words: 6 − 7 is 4,294,967,295, and words need not be below any p
@@ -14,7 +14,7 @@ pub record DifferencesExamples : Type 0 where
   -- the earlier word is the table's own: 4 − 2, and not 4 minus the difference 1
   pub original-subtracted : (out : List ℕ) → length out ≡ 3 → differencesOutput 1 (1 ∷ 2 ∷ 4 ∷ []) out ≡ 1 ∷ 1 ∷ 2 ∷ []
   -- an empty table is taken; 2 comes before 9, and 9 before 10
-  pub empty-taken : storedNumber 16 [] [] ≡ 0
-  pub degree-first : storedNumber 0 (1 ∷ []) [] ≡ 2
-  pub length-next : storedNumber 2 (1 ∷ []) [] ≡ 9
-  pub output-last : storedNumber 2 (1 ∷ 2 ∷ []) [] ≡ 10
+  pub empty-taken : differencesNumber 16 [] [] ≡ 0
+  pub degree-first : differencesNumber 17 (1 ∷ []) [] ≡ 2
+  pub length-next : differencesNumber 2 (1 ∷ []) [] ≡ 9
+  pub output-last : differencesNumber 2 (1 ∷ 2 ∷ []) [] ≡ 10

@@ -45,28 +45,21 @@ passed-lengths n rest table out h =
     rw (le-ltb mostWords (length table) (h .few), eq-eqb (length table % n) 0 (h .groups), eq-eqb (length out) (length table) (h .lengths))
 
 pub record Convertible (p n : ℕ) (table out : List ℕ) : Type 0 where
-  pub few : length table ≤ mostWords
-  pub groups : length table % n ≡ 0
-  pub lengths : length out ≡ length table
+  pub sizes : Lengths n table out
   pub words : Words p (length table) table
 
 pub table-given : (p n : ℕ) (table out : List ℕ) → tableNumber p n table out ≡ 0 → Convertible p n table out
 unfolding tableNumber
 table-given p n table out h =
-    let (lengths, h4) = lengths-passed n _ table out h in
+    let (sizes, h4) = lengths-passed n _ table out h in
     let (words, end) = refuse-none 3 (badWord p (table ∷ [])) 0 h4 in
-    record {
-      few = lengths .few;
-      groups = lengths .groups;
-      lengths = lengths .lengths;
-      words = words-of p (length table) table refl (below-given p (table ∷ []) words .0);
-    }
+    record { sizes = sizes; words = words-of p (length table) table refl (below-given p (table ∷ []) words .0) }
 
 pub given-table : {p n : ℕ} {table out : List ℕ} → Convertible p n table out → tableNumber p n table out ≡ 0
 unfolding tableNumber
 given-table {p} {n} {table} {out} h =
-    passed-lengths n _ table out (record { few = h .few; groups = h .groups; lengths = h .lengths })
+    passed-lengths n _ table out (h .sizes)
     ∙ ap (λ b. refuse 4 b 0) (given-words p (length table) (table ∷ []) (h .words, tt))
 
 pub whole-groups : {p n : ℕ} {table out : List ℕ} → Convertible p n table out → length table / n * n ≡ length table
-whole-groups {n = n} {table = table} h = omega (arith, Nat.div-add-mod' (length table) n, h .groups)
+whole-groups {n = n} {table = table} h = omega (arith, Nat.div-add-mod' (length table) n, h .sizes .groups)

@@ -109,7 +109,10 @@ module _ {p n : ℕ} {table out : List ℕ} (h : Convertible p n table out) wher
     pub converted-convertible : (lent : List ℕ) → length lent ≡ length out → Convertible p n (converted p n t s table) lent
     converted-convertible lent room =
         let l : length (converted p n t s table) ≡ length table = words-length converted-words in
-        record { few = rw l (h .few); groups = rw l (h .groups); lengths = rw l (room ∙ h .lengths); words = rw l converted-words }
+        record {
+          sizes = record { few = rw l (h .sizes .few); groups = rw l (h .sizes .groups); lengths = rw l (room ∙ h .sizes .lengths) };
+          words = rw l converted-words;
+        }
 
     -- by a map that undoes the first, into the table
     pub converted-undone : (t' s' : List ℕ) → Undoes p n (substitute p t' s') (substitute p t s)

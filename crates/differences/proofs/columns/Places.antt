@@ -17,8 +17,8 @@ module _ (n k j : ℕ) (column : k % n ≡ j) where
   column-next : (d : ℕ) → d < n → j < n → n ≤ j + d → (k + d) % n ≡ j + d - n
   column-next d l h m = moved d ∙ Nat.mod-eq-sub-mod m ∙ Nat.mod-eq-of-lt (omega arith)
 
-  pub column-below : (k + n) % n ≡ j
-  column-below = Nat.add-mod-right k n ∙ column
+  pub same-column : (k + n) % n ≡ j
+  same-column = Nat.add-mod-right k n ∙ column
 
   -- from k on, of the next n places those of the columns j to j + w − 1 are the first w
   pub in-row : (w i : ℕ) → j + w ≤ n → k ≤ i → i < k + n → j ≤ i % n → i % n < j + w → i < k + w

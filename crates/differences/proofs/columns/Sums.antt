@@ -1,6 +1,6 @@
 -- The sums that run down the columns of a table: what they are before each group, and what storing them makes of the output list.
 --   Running n table sums k     sum c, with word k + c of the table added, is the restored word k + c
---   Restoring n j table sums k old out    before the group with word k: the columns from j on, one for each sum, are restored above it
+--   Restoring n j table sums k old out    word k is in column j, and the columns from j on, one for each sum, are restored before word k
 use mathlib.Core.Path.{_≡_, refl, sym, ap, ap₂, _∙_}
 use mathlib.Core.List.{List, [], _∷_}
 use mathlib.Core.Logic.{_⊎_, inl, inr, ⊎-elim}
@@ -14,7 +14,7 @@ use Rattle.array.specs.Words.{wordBound}
 use Rattle.differences.specs.Contracts.{added, Columns}
 use Rattle.differences.specs.Differences.{restored}
 use Rattle.differences.proofs.Words.{restored-start, restored-next}
-use Rattle.differences.proofs.columns.Places.{column-on, column-below, in-row, row-fits}
+use Rattle.differences.proofs.columns.Places.{column-on, same-column, in-row, row-fits}
 use Rattle.differences.proofs.columns.Rows.{row-inside, row-outside}
 
 pub record Running (n : ℕ) (table sums : List ℕ) (k : ℕ) : Type 0 where
@@ -107,7 +107,7 @@ module _ (n j k : ℕ) (table sums new : List ℕ) (positive : 1 ≤ n) (wide : 
   pub restoring-turn : Restoring n j table new (k + n) old (sets out k new)
   restoring-turn =
       record {
-        column = column-below n k j (h .column);
+        column = same-column n k j (h .column);
         room = length-sets out k new ∙ h .room;
         running = running-turn;
         done = record {

@@ -1,4 +1,4 @@
--- What the two tests of `stored_number` say of the number.
+-- What the two tests of `differences_number` say of the number.
 use mathlib.Core.Path.{_≡_, sym, ap, _∙_}
 use mathlib.Core.Bool.{Bool, true, false, not}
 use mathlib.Core.List.{List}
@@ -6,14 +6,14 @@ use Prim.Native.Nat.{ℕ, _≤_}
 use Rattle.refusal.specs.Refusal.{refuse, isDegree, badDegree}
 use Rattle.refusal.proofs.Refusal.{degree-given}
 use Rattle.table.specs.Table.{refuseTable}
-use Rattle.differences.specs.Differences.{storedNumber}
+use Rattle.differences.specs.Differences.{differencesNumber}
 
 module _ (n : ℕ) (table out : List ℕ) (degree : Bool) (e : degree ≡ isDegree n) where
-  degree-decides : storedNumber n table out ≡ refuse 2 (not degree) (refuseTable n table out 0)
-  unfolding storedNumber badDegree
+  degree-decides : differencesNumber n table out ≡ refuse 2 (not degree) (refuseTable n table out 0)
+  unfolding differencesNumber badDegree
   degree-decides = ap (λ b. refuse 2 (not b) (refuseTable n table out 0)) (sym e)
 
-  pub no-degree : not degree ≡ true → 2 ≡ storedNumber n table out
+  pub no-degree : not degree ≡ true → 2 ≡ differencesNumber n table out
   no-degree h = rw (degree-decides, h)
 
   module _ (h : not degree ≡ false) where
@@ -21,5 +21,5 @@ module _ (n : ℕ) (table out : List ℕ) (degree : Bool) (e : degree ≡ isDegr
     unfolding badDegree
     degree-positive = degree-given n (ap not (sym e) ∙ h) .0
 
-    pub lengths-decide : (number : ℕ) → number ≡ refuseTable n table out 0 → number ≡ storedNumber n table out
+    pub lengths-decide : (number : ℕ) → number ≡ refuseTable n table out 0 → number ≡ differencesNumber n table out
     lengths-decide number f = rw (degree-decides, h) f

@@ -6,7 +6,7 @@ use lib.ListN.{length, getD, set}
 use Rattle.array.specs.Words.{wordBound}
 use Rattle.refusal.proofs.Written.{output-new, output-old}
 use Rattle.differences.specs.Contracts.{Begun}
-use Rattle.differences.specs.Differences.{minus, differences, storedNumber, differencesOutput}
+use Rattle.differences.specs.Differences.{minus, differences, differencesNumber, differencesOutput}
 use Rattle.differences.proofs.Begun.{begun-turn, begun-done, begun-other}
 use Rattle.differences.proofs.Cancel.{minus-unique}
 use Rattle.differences.proofs.Words.{differences-length, differences-first, differences-later}
@@ -28,11 +28,11 @@ module _ (n : ℕ) (table : List ℕ) where
   pub subtract-done : (k : ℕ) (out : List ℕ) → Begun k (differences n table) out → length table ≤ k → out ≡ differences n table
   subtract-done k out begun end = begun-done k (differences n table) out begun (rw (differences-length n table) end)
 
-module _ (n number : ℕ) (table out : List ℕ) (e : number ≡ storedNumber n table out) where
+module _ (n number : ℕ) (table out : List ℕ) (e : number ≡ differencesNumber n table out) where
   pub image-new : number ≡ 0 → (after : List ℕ) → after ≡ differences n table → after ≡ differencesOutput n table out
   unfolding differencesOutput
-  image-new h after f = output-new number (storedNumber n table out) (differences n table) out after e h f
+  image-new h after f = output-new number (differencesNumber n table out) (differences n table) out after e h f
 
   pub image-kept : (number ≡ 0 → ⊥) → out ≡ differencesOutput n table out
   unfolding differencesOutput
-  image-kept h = output-old number (storedNumber n table out) (differences n table) out e h
+  image-kept h = output-old number (differencesNumber n table out) (differences n table) out e h

@@ -122,7 +122,7 @@ module _ (p n : ℕ) (m table out : List ℕ) (i : ℕ) (g : Progress p n m tabl
 pub starts : (p n : ℕ) (m table out : List ℕ) → tableNumber p n table out ≡ 0 → Progress p n m table out 0
 starts p n m table out h =
     let c : Convertible p n table out = table-given p n table out h in
-    record { within = omega arith; whole = rw Nat.sub-zero (c .groups); lengths = c .lengths; image = rw Nat.sub-zero refl }
+    record { within = omega arith; whole = rw Nat.sub-zero (c .sizes .groups); lengths = c .sizes .lengths; image = rw Nat.sub-zero refl }
 
 pub done : (p n : ℕ) (m table out : List ℕ) (i : ℕ) → Progress p n m table out i → length table ≤ i
     → out ≡ eachGroup n (matrixProduct p n m) (length table / n) table
@@ -136,7 +136,7 @@ done p n m table out i g l =
 
 pub keeps-length : (p n : ℕ) (m table out₀ out : List ℕ) (i : ℕ) → tableNumber p n table out₀ ≡ 0 → Progress p n m table out i
     → length out ≡ length out₀
-keeps-length p n m table out₀ out i h g = g .lengths ∙ sym (table-given p n table out₀ h .lengths)
+keeps-length p n m table out₀ out i h g = g .lengths ∙ sym (table-given p n table out₀ h .sizes .lengths)
 
 -- the matrix of the powers of S, and the divisor q that is p
 module _ (p n : ℕ) (t s a b m : List ℕ) (big : 2 ≤ p) (wt : Words p n t) (ws : Words p n s) (e : a ≡ padded t) (f : b ≡ padded s)

@@ -4,7 +4,7 @@ use mathlib.Core.Path.{_≡_}
 use Prim.Native.Nat.{_-_, _≤_}
 use lib.ListN.{length}
 use Rattle.differences.specs.Differences.{restored}
-use Rattle.differences.proofs.columns.Laws.{Done, done-none, whole-now, columns-length, done-next, done-last}
+use Rattle.differences.proofs.columns.Across.{Done, done-none, whole-now, columns-length, done-next, done-last}
 use Rattle.differences.proofs.columns.restore_by_eights.Statement.{statement}
 use Rattle.differences.proofs.columns.restore_by_eights.Tie as tie
 

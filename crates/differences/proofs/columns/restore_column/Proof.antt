@@ -1,4 +1,4 @@
--- Before each turn the column is restored above word k, and the sum is that of its words.
+-- Before each turn the column is restored before word k, and the sum is that of its words there.
 use borrow.Author.Needs.{needs}
 use mathlib.Core.List.{[], _∷_}
 use Prim.Native.Nat.{_-_}

@@ -1,4 +1,4 @@
--- Before each turn the eight columns are restored above word k, and the sums are those of their words.
+-- Before each turn the eight columns are restored before word k, and the sums are those of their words there.
 use borrow.Author.Needs.{needs}
 use mathlib.Core.List.{[], _∷_}
 use Prim.Native.Nat.{_-_}

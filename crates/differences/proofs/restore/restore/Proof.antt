@@ -5,8 +5,8 @@ use Rattle.differences.proofs.restore.Laws.{image-new, image-kept}
 use Rattle.differences.proofs.restore.restore.Statement.{statement}
 use Rattle.differences.proofs.restore.restore.Tie as tie
 
-stored-number-requires : tie.Need-stored-number-requires
-stored-number-requires c κs = search needs
+differences-number-requires : tie.Need-differences-number-requires
+differences-number-requires c κs = search needs
 
 restore-table-requires : tie.Need-restore-table-requires
 restore-table-requires c κs = search stored-whole
@@ -27,7 +27,7 @@ pub restore-spec : {M : Type 1} → statement M
 restore-spec =
     tie.close
     (tie.spec
-    stored-number-requires
+    differences-number-requires
     restore-table-requires
     same-length
     returns

@@ -5,8 +5,8 @@ use Rattle.differences.proofs.store.Laws.{image-new, image-kept}
 use Rattle.differences.proofs.store.differences.Statement.{statement}
 use Rattle.differences.proofs.store.differences.Tie as tie
 
-stored-number-requires : tie.Need-stored-number-requires
-stored-number-requires c κs = search needs
+differences-number-requires : tie.Need-differences-number-requires
+differences-number-requires c κs = search needs
 
 keep-first-requires : tie.Need-keep-first-requires
 keep-first-requires c κs = search stored-room
@@ -30,7 +30,7 @@ pub differences-spec : {M : Type 1} → statement M
 differences-spec =
     tie.close
     (tie.spec
-    stored-number-requires
+    differences-number-requires
     keep-first-requires
     subtract-earlier-requires
     same-length
