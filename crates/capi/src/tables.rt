@@ -18,5 +18,5 @@ pub extern "C" fn yokebean_restore(n: u32, table: &[Word], out: &mut [Word]) -> 
     ensures { λ k. ⌜ k ≡ differencesNumber n (now (table .entry)) (now (out .entry)) ⌝ }
     ensures { λ k. ⌜ now (out .exit) ≡ restoreOutput n (now (table .entry)) (now (out .entry)) ⌝ }
 {
-    differences::restore::restore(n, table, out)
+    restoring::restore::restore(n, table, out)
 }

@@ -7,7 +7,6 @@ use Rattle.refusal.specs.Refusal.{refuse, badDegree, largestDegree, written}
 use Rattle.refusal.proofs.Refusal.{refuse-none, degree-given, given-degree}
 use Rattle.table.specs.Table.{refuseTable}
 use Rattle.table.proofs.Convertible.{Lengths, lengths-passed, passed-lengths}
-use Rattle.differences.specs.Contracts.{Whole}
 use Rattle.differences.specs.Differences.{differences, restored, differencesNumber, differencesOutput, restoreOutput}
 
 pub stored-given : (n : ℕ) (table out : List ℕ) → differencesNumber n table out ≡ 0 → ((1 ≤ n) × (n ≤ largestDegree)) × Lengths n table out
@@ -16,16 +15,8 @@ stored-given n table out h =
     let (degree, h9) = refuse-none 1 (badDegree n) _ h in
     (degree-given n degree, lengths-passed n 0 table out h9 .0)
 
--- the same for a number that is 0
-
-module _ (n number : ℕ) (table out : List ℕ) (e : number ≡ differencesNumber n table out) (z : number ≡ 0) where
-  pub stored-whole : Whole n table out
-  stored-whole =
-      let (degree, lengths) = stored-given n table out (sym e ∙ z) in
-      record { low = degree .0; high = degree .1; few = lengths .few; groups = lengths .groups; room = lengths .lengths }
-
-  pub stored-room : length out ≡ length table
-  stored-room = stored-whole .room
+pub stored-room : (n number : ℕ) (table out : List ℕ) → number ≡ differencesNumber n table out → number ≡ 0 → length out ≡ length table
+stored-room n number table out e z = stored-given n table out (sym e ∙ z) .1 .lengths
 
 pub given-stored : (n : ℕ) (table out : List ℕ) → 1 ≤ n → n ≤ largestDegree → Lengths n table out → differencesNumber n table out ≡ 0
 unfolding differencesNumber

@@ -1,7 +1,7 @@
--- Wrapped sums and differences, the words of what the two calls write, the loops that write them, and the proofs of what is promised.
+-- Wrapped sums and differences, the words of what the two calls write, loops that write the words of a list, and the proofs of what is promised.
 mod Cancel
-mod Words
+pub mod Words
 mod Back
 mod Begun
-mod Given
+pub mod Given
 pub mod Theorem

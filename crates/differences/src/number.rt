@@ -1,4 +1,4 @@
-// The refusals of both calls.
+// The refusals of both calls, which store a table and restore it.
 ghost use mathlib.Core.Path.{_≡_};
 ghost use Rattle.differences.specs.Differences.{differencesNumber};
 use array::Word;

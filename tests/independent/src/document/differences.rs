@@ -10,15 +10,12 @@ fn difference(n: usize, table: &[u32], k: usize) -> u32 {
     (i64::from(table[k]) - i64::from(before)).rem_euclid(MODULUS) as u32
 }
 
-/// Word k is the sum of the words k, k − n, k − 2n, …
+/// The first n words stay; each later word becomes itself plus the restored word n places before. From the first word on.
 fn restored(n: usize, table: &[u32]) -> Vec<u32> {
-    let mut out = vec![0; table.len()];
-    for column in 0..n {
-        let mut sum: i64 = 0;
-        for k in (column..table.len()).step_by(n) {
-            sum += i64::from(table[k]);
-            out[k] = (sum % MODULUS) as u32;
-        }
+    let mut out: Vec<u32> = Vec::with_capacity(table.len());
+    for (k, &word) in table.iter().enumerate() {
+        let before = if k < n { 0 } else { out[k - n] };
+        out.push(((i64::from(word) + i64::from(before)) % MODULUS) as u32);
     }
     out
 }

@@ -1,0 +1,1 @@
+-- The proofs stand beside the modules that they are of.

@@ -1,0 +1,2 @@
+-- The words of the contracts between the functions that restore a table.
+pub mod Contracts
