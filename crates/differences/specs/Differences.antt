@@ -4,7 +4,7 @@
 --   differences n table     the first n words of the table, and then word k minus word k − n, for k = n, n + 1, …
 --   sumOf xs                the sum of all words of xs
 --   restored n table        word k is the sum of the k / n + 1 words k, k − n, k − 2·n, … of the table, wrapped at 32 bits
---   differencesNumber n table out       the answer of both calls ("Refusals 2, 9 and 10 apply, in that order")
+--   differencesNumber n table out  the answer of both calls ("Refusals 2, 9 and 10 apply, in that order")
 --   differencesOutput n table out  what the list lent for the differences holds after the call
 --   restoreOutput n table out      what the list lent for the restored table holds after the call
 use mathlib.Core.List.{List, [], _∷_, _++_, map}
