@@ -3,4 +3,5 @@ mod Places
 mod Rows
 mod Sums
 mod Laws
+mod Some
 mod Across

@@ -1,11 +1,14 @@
 -- The words of the contracts between the functions that restore a table; no public call's contract rests on them.
 --   Whole n table out         n is 1 to 16, the table has at most 16,384 words, in whole groups of n, and out has its length
+--   width n                   how many columns are restored at a time: 8 where n is at least 8, 4 where it is at least 4, else 1
 --   added k table sums        each sum c plus word k + c of the table, wrapped at 32 bits
 --   Columns n j w k xs old out    in the columns j to j + w − 1, out has the words of xs at the places before k; in the other columns it has those of old
 use mathlib.Core.Path.{_≡_}
+use mathlib.Core.Bool.{true, false}
 use mathlib.Core.List.{List, [], _∷_}
 use mathlib.Core.Logic.{_⊎_}
 use Prim.Native.Nat.{ℕ, suc, _+_, _%_, _≤_, _<_}
+use lib.Dec.{ltb}
 use lib.ListN.{length, getD}
 use Rattle.array.specs.Words.{wordBound}
 use Rattle.refusal.specs.Refusal.{largestDegree}
@@ -17,6 +20,9 @@ pub record Whole (n : ℕ) (table out : List ℕ) : Type 0 where
   pub few : length table ≤ mostWords
   pub groups : length table % n ≡ 0
   pub room : length out ≡ length table
+
+unfoldable pub width : ℕ → ℕ
+width n = elim (ltb n 4) [ true ↦ 1 | false ↦ elim (ltb n 8) [ true ↦ 4 | false ↦ 8 ] ]
 
 unfoldable pub added : ℕ → List ℕ → List ℕ → List ℕ
 added k table [] = []

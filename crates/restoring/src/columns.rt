@@ -2,7 +2,7 @@
 ghost use mathlib.Core.Path.{_≡_};
 ghost use Prim.Native.Nat.{_+_, _≤_, _<_};
 ghost use lib.ListN.{length};
-ghost use Rattle.restoring.specs.Contracts.{Whole, Columns};
+ghost use Rattle.restoring.specs.Contracts.{Whole, Columns, width};
 ghost use Rattle.differences.specs.Differences.{restored};
 use crate::eight::Eight;
 use crate::eight::add_eight;
@@ -72,42 +72,44 @@ fn restore_eight(n: usize, j: usize, table: &[Word], out: &mut [Word])
     }
 }
 
-// All columns, one by one.
-pub fn restore_singly(n: usize, table: &[Word], out: &mut [Word])
-    requires { ⌜ Whole n (now table) (now out) ⌝ }
-    ensures { λ _. ⌜ now (out .exit) ≡ restored n (now (table .entry)) ⌝ }
+// How many columns are restored at a time.
+fn width(n: usize) -> usize
+    ensures { λ w. ⌜ w ≡ width n ⌝ }
 {
-    let mut j = 0;
-    while j < n {
+    if n < 4 {
+        1
+    } else if n < 8 {
+        4
+    } else {
+        8
+    }
+}
+
+// The columns from column j on, as many as are restored at a time.
+fn restore_some(n: usize, j: usize, table: &[Word], out: &mut [Word])
+    requires { ⌜ Whole n (now table) (now out) ⌝ }
+    requires { ⌜ j + width n ≤ n ⌝ }
+    ensures { λ _. ⌜ Columns n j (width n) (length (now (table .entry))) (restored n (now (table .entry))) (now (out .entry)) (now (out .exit)) ⌝ }
+{
+    if n < 4 {
         restore_column(n, j, table, out);
-        j += 1;
-    }
-}
-
-// All columns, four by four. The last four end with the last column, so that some of them may be restored twice.
-pub fn restore_by_fours(n: usize, table: &[Word], out: &mut [Word])
-    requires { ⌜ Whole n (now table) (now out) ⌝ }
-    requires { ⌜ 4 ≤ n ⌝ }
-    ensures { λ _. ⌜ now (out .exit) ≡ restored n (now (table .entry)) ⌝ }
-{
-    let mut j = 0;
-    while j + 4 < n {
+    } else if n < 8 {
         restore_four(n, j, table, out);
-        j += 4;
+    } else {
+        restore_eight(n, j, table, out);
     }
-    restore_four(n, n - 4, table, out);
 }
 
-// All columns, eight by eight, likewise.
-pub fn restore_by_eights(n: usize, table: &[Word], out: &mut [Word])
+// All columns. The last that are restored at a time end with the last column, so that some columns may be restored twice.
+pub fn restore_columns(n: usize, table: &[Word], out: &mut [Word])
     requires { ⌜ Whole n (now table) (now out) ⌝ }
-    requires { ⌜ 8 ≤ n ⌝ }
     ensures { λ _. ⌜ now (out .exit) ≡ restored n (now (table .entry)) ⌝ }
 {
+    let w = width(n);
     let mut j = 0;
-    while j + 8 < n {
-        restore_eight(n, j, table, out);
-        j += 8;
+    while j + w < n {
+        restore_some(n, j, table, out);
+        j += w;
     }
-    restore_eight(n, n - 8, table, out);
+    restore_some(n, n - w, table, out);
 }

@@ -9,9 +9,10 @@ use native.Mathlib.Nat as Nat
 use native.Mathlib.Omega.{arith}
 use lib.ListN.{length, getD}
 use lib.Seq.{ext-getD}
-use Rattle.restoring.specs.Contracts.{Whole, Columns}
+use Rattle.restoring.specs.Contracts.{Whole, Columns, width}
 use Rattle.differences.specs.Differences.{restored}
 use Rattle.differences.proofs.Words.{restored-length}
+use Rattle.restoring.proofs.columns.Some.{width-bounds}
 
 pub record Done (n j : ℕ) (xs out : List ℕ) : Type 0 where
   pub size : length out ≡ length xs
@@ -44,13 +45,28 @@ pub columns-length : (n c w : ℕ) (table out out′ : List ℕ) → Columns n c
     → length out′ ≡ length table
 columns-length n c w table out out′ new room = new .size ∙ room
 
--- w columns from column j on
-pub done-next : (n j w : ℕ) (table out out′ : List ℕ) → Done n j (restored n table) out → Columns n j w (length table) (restored n table) out out′
-    → Done n (j + w) (restored n table) out′
-done-next n j w table out out′ done new = done-more n j j w (j + w) table out out′ done (omega arith) (omega arith) new
+-- the columns that are restored at a time, w of them
 
--- the last w columns
-pub done-last : (n j w : ℕ) (table out₀ out out′ : List ℕ) → Whole n table out₀ → w ≤ n → n ≤ j + w → Done n j (restored n table) out
-    → Columns n (n - w) w (length table) (restored n table) out out′ → out′ ≡ restored n table
-done-last n j w table out₀ out out′ h wide end done new =
-    done-all n n table out₀ out′ h (Nat.le-refl n) (done-more n j (n - w) w n table out out′ done (omega arith) (omega arith) new)
+module _ (n w : ℕ) (table out₀ : List ℕ) (h : Whole n table out₀) (e : w ≡ width n) where
+  pub w-positive : 1 ≤ w
+  w-positive = rw e (width-bounds n (h .low) .0)
+
+  pub w-small : w ≤ n
+  w-small = rw e (width-bounds n (h .low) .1)
+
+  -- from column j on
+  pub some-inside : (j : ℕ) → j + w < n → j + width n ≤ n
+  some-inside j l = omega arith
+
+  pub done-next : (j : ℕ) (out out′ : List ℕ) → Done n j (restored n table) out → Columns n j (width n) (length table) (restored n table) out out′
+      → Done n (j + w) (restored n table) out′
+  done-next j out out′ done new = done-more n j j (width n) (j + w) table out out′ done (omega arith) (omega arith) new
+
+  -- the last
+  pub last-inside : n - w + width n ≤ n
+  last-inside = omega (arith, w-small)
+
+  pub done-last : (j : ℕ) (out out′ : List ℕ) → n ≤ j + w → Done n j (restored n table) out
+      → Columns n (n - w) (width n) (length table) (restored n table) out out′ → out′ ≡ restored n table
+  done-last j out out′ end done new =
+      done-all n n table out₀ out′ h (Nat.le-refl n) (done-more n j (n - w) (width n) n table out out′ done (omega arith) (omega (arith, w-small)) new)

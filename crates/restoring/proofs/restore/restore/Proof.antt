@@ -7,8 +7,8 @@ use Rattle.restoring.proofs.restore.restore.Tie as tie
 differences-number-requires : tie.Need-differences-number-requires
 differences-number-requires c κs = search needs
 
-restore-table-requires : tie.Need-restore-table-requires
-restore-table-requires c κs = search stored-whole
+restore-columns-requires : tie.Need-restore-columns-requires
+restore-columns-requires c κs = search stored-whole
 
 same-length : tie.Need-same-length
 same-length c = search needs
@@ -27,7 +27,7 @@ restore-spec =
     tie.close
     (tie.spec
     differences-number-requires
-    restore-table-requires
+    restore-columns-requires
     same-length
     returns
     same-length-2
