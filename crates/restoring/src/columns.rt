@@ -100,7 +100,7 @@ fn restore_some(n: usize, j: usize, table: &[Word], out: &mut [Word])
     }
 }
 
-// All columns. The last that are restored at a time end with the last column, so that some columns may be restored twice.
+// All columns. Those that are restored last end with the last column, so that some columns may be restored twice.
 pub fn restore_columns(n: usize, table: &[Word], out: &mut [Word])
     requires { ⌜ Whole n (now table) (now out) ⌝ }
     ensures { λ _. ⌜ now (out .exit) ≡ restored n (now (table .entry)) ⌝ }
