@@ -23,7 +23,7 @@ typedef struct {
 } job;
 
 /* The inputs of a row: jobs with one p and n, and a table that all of them convert. Where p is 0, the work has no p and the one job no models, and the
- * table's words may be any. */
+ * table's words may have any values. */
 typedef struct {
     uint32_t p, n;
     size_t jobs, words, card_length;

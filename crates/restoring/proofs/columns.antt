@@ -2,6 +2,5 @@
 mod Places
 mod Rows
 mod Sums
-mod Laws
 mod Some
 mod Across

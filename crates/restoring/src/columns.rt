@@ -1,6 +1,6 @@
 // The columns of a table: column j has the words j, j + n, j + 2·n, …. A word is restored as the sum of its column up to it.
 ghost use mathlib.Core.Path.{_≡_};
-ghost use Prim.Native.Nat.{_+_, _≤_, _<_};
+ghost use Prim.Native.Nat.{_+_, _≤_};
 ghost use lib.ListN.{length};
 ghost use Rattle.restoring.specs.Contracts.{Whole, Columns, width};
 ghost use Rattle.differences.specs.Differences.{restored};
@@ -16,7 +16,7 @@ use differences::wrapped::plus;
 // Column j.
 fn restore_column(n: usize, j: usize, table: &[Word], out: &mut [Word])
     requires { ⌜ Whole n (now table) (now out) ⌝ }
-    requires { ⌜ j < n ⌝ }
+    requires { ⌜ j + 1 ≤ n ⌝ }
     ensures { λ _. ⌜ Columns n j 1 (length (now (table .entry))) (restored n (now (table .entry))) (now (out .entry)) (now (out .exit)) ⌝ }
 {
     let mut sum = 0;

@@ -1,7 +1,7 @@
 // Eight words that stand side by side: four and the next four.
 ghost use mathlib.Core.List.{[], _∷_};
 ghost use mathlib.Core.Path.{_≡_};
-ghost use Prim.Native.Nat.{_+_, _<_};
+ghost use Prim.Native.Nat.{_+_, _≤_};
 ghost use lib.ListN.{length};
 ghost use lib.Seq.{sets};
 ghost use Rattle.restoring.specs.Contracts.{added};
@@ -17,9 +17,8 @@ pub struct Eight {
 
 // The eight words plus those of the table from word k on.
 pub fn add_eight(s: Eight, k: usize, table: &[Word]) -> Eight
-    requires { ⌜ k + 7 < length (now table) ⌝ }
-    ensures { λ r. ⌜ r .left .a ∷ r .left .b ∷ r .left .c ∷ r .left .d ∷ [] ≡ added k (now (table .entry)) (s .left .a ∷ s .left .b ∷ s .left .c ∷ s .left .d ∷ []) ⌝ }
-    ensures { λ r. ⌜ r .right .a ∷ r .right .b ∷ r .right .c ∷ r .right .d ∷ [] ≡ added (k + 4) (now (table .entry)) (s .right .a ∷ s .right .b ∷ s .right .c ∷ s .right .d ∷ []) ⌝ }
+    requires { ⌜ k + 8 ≤ length (now table) ⌝ }
+    ensures { λ r. ⌜ r .left .a ∷ r .left .b ∷ r .left .c ∷ r .left .d ∷ r .right .a ∷ r .right .b ∷ r .right .c ∷ r .right .d ∷ [] ≡ added k (now (table .entry)) (s .left .a ∷ s .left .b ∷ s .left .c ∷ s .left .d ∷ s .right .a ∷ s .right .b ∷ s .right .c ∷ s .right .d ∷ []) ⌝ }
 {
     let left = s.left;
     let right = s.right;
@@ -33,8 +32,8 @@ pub fn add_eight(s: Eight, k: usize, table: &[Word]) -> Eight
 
 // The eight words into a list, from word k on.
 pub fn store_eight(s: Eight, k: usize, out: &mut [Word])
-    requires { ⌜ k + 7 < length (now out) ⌝ }
-    ensures { λ _. ⌜ now (out .exit) ≡ sets (sets (now (out .entry)) k (s .left .a ∷ s .left .b ∷ s .left .c ∷ s .left .d ∷ [])) (k + 4) (s .right .a ∷ s .right .b ∷ s .right .c ∷ s .right .d ∷ []) ⌝ }
+    requires { ⌜ k + 8 ≤ length (now out) ⌝ }
+    ensures { λ _. ⌜ now (out .exit) ≡ sets (now (out .entry)) k (s .left .a ∷ s .left .b ∷ s .left .c ∷ s .left .d ∷ s .right .a ∷ s .right .b ∷ s .right .c ∷ s .right .d ∷ []) ⌝ }
 {
     let left = s.left;
     let right = s.right;

@@ -1,7 +1,7 @@
 // Four words that stand side by side, which a processor adds at once.
 ghost use mathlib.Core.List.{[], _∷_};
 ghost use mathlib.Core.Path.{_≡_};
-ghost use Prim.Native.Nat.{_+_, _<_};
+ghost use Prim.Native.Nat.{_+_, _≤_};
 ghost use lib.ListN.{length};
 ghost use lib.Seq.{sets};
 ghost use Rattle.restoring.specs.Contracts.{added};
@@ -17,7 +17,7 @@ pub struct Four {
 
 // The four words plus those of the table from word k on.
 pub fn add_four(s: Four, k: usize, table: &[Word]) -> Four
-    requires { ⌜ k + 3 < length (now table) ⌝ }
+    requires { ⌜ k + 4 ≤ length (now table) ⌝ }
     ensures { λ r. ⌜ r .a ∷ r .b ∷ r .c ∷ r .d ∷ [] ≡ added k (now (table .entry)) (s .a ∷ s .b ∷ s .c ∷ s .d ∷ []) ⌝ }
 {
     Four {
@@ -30,7 +30,7 @@ pub fn add_four(s: Four, k: usize, table: &[Word]) -> Four
 
 // The four words into a list, from word k on.
 pub fn store_four(s: Four, k: usize, out: &mut [Word])
-    requires { ⌜ k + 3 < length (now out) ⌝ }
+    requires { ⌜ k + 4 ≤ length (now out) ⌝ }
     ensures { λ _. ⌜ now (out .exit) ≡ sets (now (out .entry)) k (s .a ∷ s .b ∷ s .c ∷ s .d ∷ []) ⌝ }
 {
     out[k] = s.a;

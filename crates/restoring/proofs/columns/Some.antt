@@ -1,5 +1,5 @@
 -- How many columns are restored at a time, by the number n of columns.
-use mathlib.Core.Path.{_≡_, sym}
+use mathlib.Core.Path.{_≡_}
 use mathlib.Core.List.{List}
 use Prim.Native.Nat.{ℕ, _+_, _≤_, _<_}
 use native.Mathlib.Decide.{decLt}
@@ -30,24 +30,11 @@ width-bounds n positive = go (decLt n 4) (decLt n 8)
     go (no l) (yes m) = omega (arith, width-four n (omega arith) m)
     go (no l) (no m) = omega (arith, width-eight n (omega arith) (omega arith))
 
--- each case: the columns are in the table, and those that are promised are restored
+-- w columns, where w are restored at a time: they are in the table, and they are those that are promised
 
-module _ (n j : ℕ) (room : j + width n ≤ n) where
-  pub one-fits : n < 4 → j < n
-  one-fits h = omega (arith, width-one n h)
+pub width-fits : (n j w : ℕ) → w ≡ width n → j + width n ≤ n → j + w ≤ n
+width-fits n j w e room = omega arith
 
-  pub four-fits : 4 ≤ n → n < 8 → j + 4 ≤ n
-  four-fits l h = omega (arith, width-four n l h)
-
-  pub eight-fits : 4 ≤ n → 8 ≤ n → j + 8 ≤ n
-  eight-fits l h = omega (arith, width-eight n l h)
-
-module _ (n j : ℕ) (table old out : List ℕ) where
-  pub one-some : n < 4 → Columns n j 1 (length table) (restored n table) old out → Columns n j (width n) (length table) (restored n table) old out
-  one-some h new = rw (sym (width-one n h)) new
-
-  pub four-some : 4 ≤ n → n < 8 → Columns n j 4 (length table) (restored n table) old out → Columns n j (width n) (length table) (restored n table) old out
-  four-some l h new = rw (sym (width-four n l h)) new
-
-  pub eight-some : 4 ≤ n → 8 ≤ n → Columns n j 8 (length table) (restored n table) old out → Columns n j (width n) (length table) (restored n table) old out
-  eight-some l h new = rw (sym (width-eight n l h)) new
+pub width-columns : (n j w : ℕ) (table old out : List ℕ) → w ≡ width n → Columns n j w (length table) (restored n table) old out
+    → Columns n j (width n) (length table) (restored n table) old out
+width-columns n j w table old out e new = rw e at new

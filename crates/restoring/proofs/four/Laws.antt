@@ -1,19 +1,23 @@
 -- Four sums, and four stores one after another: each word has its place in the list, and together they are a run of stores.
 use mathlib.Core.Path.{_≡_}
 use mathlib.Core.List.{List, [], _∷_}
-use Prim.Native.Nat.{ℕ, suc, _+_, _%_, _<_}
+use Prim.Native.Nat.{ℕ, suc, _+_, _%_, _≤_, _<_}
 use native.Mathlib.Omega.{arith}
 use lib.ListN.{length, getD, set, length-set}
 use lib.Seq.{sets}
 use Rattle.array.specs.Words.{wordBound}
 use Rattle.restoring.specs.Contracts.{added}
 
-module _ (k : ℕ) (out : List ℕ) (inside : k + 3 < length out) (a : ℕ) where
+module _ (k : ℕ) (out : List ℕ) (inside : k + 4 ≤ length out) (a : ℕ) where
   pub second-inside : k + 1 < length (set out k a)
   second-inside = omega (arith, length-set out k a)
 
   pub third-inside : (b : ℕ) → k + 2 < length (set (set out k a) (k + 1) b)
   third-inside b = omega (arith, length-set out k a, length-set (set out k a) (k + 1) b)
+
+  pub fourth-inside : (b c : ℕ) → k + 3 < length (set (set (set out k a) (k + 1) b) (k + 2) c)
+  fourth-inside b c =
+      omega (arith, length-set out k a, length-set (set out k a) (k + 1) b, length-set (set (set out k a) (k + 1) b) (k + 2) c)
 
 pub four-stored : (k a b c d : ℕ) (out : List ℕ)
     → set (set (set (set out k a) (k + 1) b) (k + 2) c) (k + 3) d ≡ sets out k (a ∷ b ∷ c ∷ d ∷ [])

@@ -3,19 +3,18 @@ use borrow.Author.Needs.{needs}
 use mathlib.Core.List.{[], _∷_}
 use Prim.Native.Nat.{_-_}
 use lib.ListN.{length}
-use Rattle.restoring.proofs.columns.Sums.{Restoring}
-use Rattle.restoring.proofs.columns.Laws.{one-none, one-turn, one-end}
+use Rattle.restoring.proofs.columns.Sums.{Restoring, restoring-none, column-turn, restoring-end}
 use Rattle.restoring.proofs.columns.restore_column.Statement.{statement}
 use Rattle.restoring.proofs.columns.restore_column.Tie as tie
 
 abbrev Inv-loop : tie.InvT-loop
-Inv-loop n j table out₀ sum₀ k₀ out sum k = Restoring n j table (sum ∷ []) k out₀ out
+Inv-loop n j table out₀ sum₀ k₀ out sum k = Restoring n j 1 k table (sum ∷ []) out₀ out
 
 abbrev μ-loop : tie.MeasureT-loop
 μ-loop n j table out₀ sum₀ k₀ out sum k = length table - k
 
 loop-holds : tie.Need-loop-holds Inv-loop μ-loop
-loop-holds c = search one-none
+loop-holds c = search (restoring-none, needs)
 
 mul-plus : tie.Need-mul-plus Inv-loop μ-loop
 mul-plus c = search needs
@@ -39,13 +38,13 @@ loop-less : tie.Need-loop-less Inv-loop μ-loop
 loop-less c = search needs
 
 loop-again : tie.Need-loop-again Inv-loop μ-loop
-loop-again c = search one-turn
+loop-again c = search column-turn
 
 same-length : tie.Need-same-length Inv-loop μ-loop
 same-length c = search needs
 
 returns : tie.Need-returns Inv-loop μ-loop
-returns c = search one-end
+returns c = search restoring-end
 
 pub restore-column-spec : {M : Type 1} → statement M
 restore-column-spec =

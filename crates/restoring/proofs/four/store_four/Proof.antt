@@ -1,6 +1,6 @@
 -- Four stores, one after another.
 use borrow.Author.Needs.{needs}
-use Rattle.restoring.proofs.four.Laws.{second-inside, third-inside, four-stored}
+use Rattle.restoring.proofs.four.Laws.{second-inside, third-inside, fourth-inside, four-stored}
 use Rattle.restoring.proofs.four.store_four.Statement.{statement}
 use Rattle.restoring.proofs.four.store_four.Tie as tie
 
@@ -35,7 +35,7 @@ mul-out-4 : tie.Need-mul-out-4
 mul-out-4 c = search needs
 
 slice-write-out-4 : tie.Need-slice-write-out-4
-slice-write-out-4 c = search needs
+slice-write-out-4 c = search fourth-inside
 
 same-length : tie.Need-same-length
 same-length c = search needs
