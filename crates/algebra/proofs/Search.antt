@@ -1,12 +1,12 @@
 -- Laws of search in a list: a test of every element, the first element that passes a test, and both over a range of numbers.
 -- What is found passes the test if any element does; whatever alone passes it is found; in a range the smallest that passes is found.
 --   Found test xs y   y stands in xs and passes the test
-use mathlib.Core.Path.{_≡_, refl, sym, ap, _∙_}
+use mathlib.Core.Path.{_≡_, refl, sym, ap, ap₂, _∙_}
 use mathlib.Core.Bool.{Bool, true, false, true≢false, false≢true}
-use mathlib.Core.List.{List, [], _∷_}
+use mathlib.Core.List.{List, [], _∷_, _++_}
 use mathlib.Core.Logic.{inl, inr, ⊎-elim}
 use Prim.Native.Nat.{ℕ, zero, suc, _+_, _≤_, _<_}
-use native.Mathlib.Nat.{eq-or-lt-of-le}
+use native.Mathlib.Nat.{zero-add, add-zero, suc-add, add-suc, eq-or-lt-of-le}
 use native.Mathlib.Omega.{arith}
 use lib.ListN.{length}
 use Rattle.algebra.specs.Lists.{Member, Distinct, all, range, first, filter}
@@ -19,6 +19,12 @@ pub range-length : (a k : ℕ) → length (range a k) ≡ k
 unfolding range
 range-length a zero = refl
 range-length a (suc k) = ap suc (range-length (suc a) k)
+
+pub range-append : (a j k : ℕ) → range a (j + k) ≡ range a j ++ range (a + j) k
+unfolding range
+range-append a zero k = ap₂ range (sym (add-zero a)) (zero-add k)
+range-append a (suc j) k =
+    ap (range a) (suc-add j k) ∙ ap (λ l. a ∷ l) (range-append (suc a) j k ∙ ap (λ x. range (suc a) j ++ range x k) (suc-add a j ∙ sym (add-suc a j)))
 
 pub range-bounds : (a k x : ℕ) → Member x (range a k) → (a ≤ x) × (x < a + k)
 unfolding range

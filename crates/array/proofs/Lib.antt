@@ -8,3 +8,4 @@ pub mod Copying
 pub mod Ascending
 pub mod Filling
 pub mod Ranges
+pub mod Digits

@@ -1,4 +1,5 @@
--- Lists of words below p, residues and matrices in flat arrays, and the order of lists.
+-- Lists of words below p, their order, the numbers whose digits they are, and residues and matrices in flat arrays.
 pub mod Words
 pub mod Array
 pub mod Ascending
+pub mod Digits
