@@ -7,7 +7,7 @@
 --   iterate M k u          X^k·u
 --   Linear M N F           F preserves sums and X
 use mathlib.Core.Path.{_≡_, refl, sym, ap, _∙_}
-use mathlib.Core.List.{List, [], _∷_}
+use mathlib.Core.List.{List, [], _∷_, _++_}
 use Prim.Native.Nat.{ℕ, zero, suc, _+_, _*_, _/_, _%_}
 use native.Mathlib.Nat as Nat
 use lib.ListN.{length, replicate}
@@ -156,11 +156,25 @@ module _ {p : ℕ} {G : Type 0} (M : PolynomialModule p G) where
   act-product [] g u = simp act-nil
   act-product (c ∷ f) g u = simp (act-sum, act-cons, act-scale, act-product f g u, multiple-zero, zero-add)
 
+  -- the list g behind f, of k words, acts as X^k·g
+  pub act-append : (f g : List ℕ) (u : G) → act M (f ++ g) u ≡ M .add (act M f u) (iterate M (length f) (act M g u))
+  unfolding iterate
+  act-append [] g u = simp (act-nil, zero-add)
+  act-append (a ∷ f) g u = simp (act-cons, act-append f g u, M .timesX-add, M .add-assoc)
+
+  pub act-word : (a : ℕ) (u : G) → act M (a ∷ []) u ≡ multiple M a u
+  act-word a u = simp (act-cons, act-nil, linear-zero timesX-linear, M .add-zero)
+
   -- the polynomial X^n + t acts as X^n and t together
   pub act-monic : (t : List ℕ) (u : G) → act M (monic t) u ≡ M .add (act M t u) (iterate M (length t) u)
-  unfolding monic iterate
-  act-monic [] u = simp (act-cons, act-nil, multiple-one, linear-zero timesX-linear, M .add-zero, zero-add)
-  act-monic (a ∷ t) u = simp (act-cons, act-monic t u, M .timesX-add, M .add-assoc)
+  unfolding monic
+  act-monic t u = act-append t (1 ∷ []) u ∙ ap (λ v. M .add (act M t u) (iterate M (length t) v)) (act-word 1 u ∙ multiple-one M u)
+
+  -- X^k·(g·u) = g·(X^k·u)
+  pub iterate-act : (k : ℕ) (g : List ℕ) (u : G) → iterate M k (act M g u) ≡ act M g (iterate M k u)
+  unfolding iterate
+  iterate-act zero g u = refl
+  iterate-act (suc k) g u = ap (M .timesX) (iterate-act k g u) ∙ linear-act timesX-linear g (iterate M k u)
 
   -- 0 and 1 as lists of any length
   pub act-zeros : (n : ℕ) (u : G) → act M (replicate n 0) u ≡ M .zero

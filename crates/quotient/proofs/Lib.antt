@@ -1,5 +1,5 @@
 -- The theory of residues modulo a monic polynomial.
-mod Action
+pub mod Action
 pub mod Operations
 pub mod Sums
 pub mod TimesX
@@ -10,10 +10,13 @@ pub mod Substitution
 pub mod SumOfPowers
 mod Remainder
 pub mod Listing
+pub mod Numbering
 pub mod Divisor
 pub mod Decision
 pub mod Descent
 pub mod Units
+pub mod Cofactor
+pub mod Multiples
 pub mod Field
 pub mod FieldModulus
 pub mod Frobenius

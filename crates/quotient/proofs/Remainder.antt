@@ -78,7 +78,7 @@ module _ {p : ℕ} (big : 2 ≤ p) where
       ap (λ u. getD u 0 0) (sym (coefficient-is f i) ∙ ap (λ a. a i .0) (h (Series p) series oneSeries) ∙ coefficient-is g i)
 
 module _ {p n : ℕ} {t : List ℕ} (big : 2 ≤ p) (wt : Words p (suc n) t) where
-  pub quotient : List ℕ → List ℕ
+  unfoldable pub quotient : List ℕ → List ℕ
   quotient [] = []
   quotient (c ∷ f) = top 0 (act (residueModule big wt) f (oneResidue big) .0) ∷ quotient f
 

@@ -69,7 +69,7 @@ module _ {p n : ℕ} {t : List ℕ} (big : 2 ≤ p) (wt : Words p n t) where
   multiple-one-is c = multiple-is c (oneResidue big) ∙ Sums.scale-constant p n c 1 ∙ simp Nat.mul-one
 
   -- u·1 = u, also where u is a shorter list
-  act-one-padded : {k : ℕ} {u : List ℕ} → Words p k u → (j : ℕ) → k + j ≡ n → act residueModule u (oneResidue big) .0 ≡ u ++ replicate j 0
+  pub act-one-padded : {k : ℕ} {u : List ℕ} → Words p k u → (j : ℕ) → k + j ≡ n → act residueModule u (oneResidue big) .0 ≡ u ++ replicate j 0
   unfolding act residueModule zeroResidue oneResidue constantResidue addResidue multiple
   act-one-padded none j h = Operations.constant-zero n ∙ ap (λ i. replicate i 0) (sym h ∙ Nat.zero-add j)
   act-one-padded (more {a = a} {n = k} {u = u} l w) j h =

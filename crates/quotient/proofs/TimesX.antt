@@ -61,7 +61,7 @@ shift-zeros c [] zero = refl
 shift-zeros c [] (suc j) = ap (_∷_ c) (shift-zeros 0 [] j)
 shift-zeros c (a ∷ u) j = ap (_∷_ c) (shift-zeros a u j)
 
-top-zeros : (c : ℕ) (u : List ℕ) (j : ℕ) → top c (u ++ replicate (suc j) 0) ≡ 0
+pub top-zeros : (c : ℕ) (u : List ℕ) (j : ℕ) → top c (u ++ replicate (suc j) 0) ≡ 0
 unfolding top
 top-zeros c [] zero = refl
 top-zeros c [] (suc j) = top-zeros 0 [] j
