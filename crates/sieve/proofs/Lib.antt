@@ -1,0 +1,3 @@
+-- The mathematics of the sieve: the lower words of multiples, and powers of p.
+mod LowerWords
+mod Powers

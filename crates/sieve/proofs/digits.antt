@@ -1,0 +1,2 @@
+-- Powers of p and digits: the laws of their loops.
+pub mod Turns

@@ -1,0 +1,2 @@
+-- The lower words of all multiples as numbers: the laws of its loops.
+pub mod Codes

@@ -1,0 +1,3 @@
+-- The words of the contracts between the functions of the sieve.
+pub mod Multiples
+pub mod Contracts
