@@ -3,7 +3,7 @@
 use mathlib.Core.Path.{_≡_, sym, ap, _∙_}
 use mathlib.Core.Logic.{_⊎_, inl, inr, ⊎-elim}
 use Prim.Native.Nat.{ℕ, zero, suc, _+_, _*_, _/_, _%_, _^_, _≤_, _<_}
-use native.Mathlib.Nat.{pow-zero, pow-suc, pow-le-pow-right, one-le-pow, le-dest, mul-one, mul-comm, mul-mod-left, div-add-mod, eq-of-mul-eq-mul-right, eq-one-of-dvd-one, dvd-of-mod-eq-zero, le-refl}
+use native.Mathlib.Nat.{pow-zero, pow-suc, pow-le-pow-right, one-le-pow, le-dest, mul-one, one-mul, mul-comm, mul-mod-left, div-add-mod, eq-of-mul-eq-mul-right, eq-one-of-dvd-one, dvd-of-mod-eq-zero, le-refl}
 use native.Mathlib.Omega.{arith}
 use Rattle.algebra.specs.Prime.{Prime}
 use Rattle.algebra.specs.Ring.{CommutativeRing, power}
@@ -65,6 +65,9 @@ module _ {A : Type 0} (R : CommutativeRing A) (p : ℕ) (prime : Prime p) (x : A
 
   pub period-of-prime-power : (d : ℕ) → 0 < d → d < p ^ suc k → power R x (p ^ d) ≡ x → ⊥
   period-of-prime-power d = no-period-below d d (le-refl d)
+
+pub pow-one : (m : ℕ) → m ^ 1 ≡ m
+pow-one m = pow-suc m 0 ∙ simp (pow-zero, one-mul)
 
 -- 2·p^k ≤ p^(n + 1)
 pub power-doubles : (p k n : ℕ) → 2 ≤ p → k ≤ n → p ^ k + p ^ k ≤ p ^ suc n

@@ -5,7 +5,7 @@ use mathlib.Core.Path.{_≡_, refl, sym, ap, _∙_}
 use mathlib.Core.HLevel.{×-discrete}
 use mathlib.Core.List.{List, [], _∷_}
 use Prim.Native.Nat.{ℕ, zero, suc, _-_, _*_, _^_, _≤_}
-use native.Mathlib.Nat.{mul-suc, mul-zero, one-mul, pow-zero, pow-suc}
+use native.Mathlib.Nat.{mul-suc, mul-zero, pow-zero, pow-suc}
 use native.Mathlib.Omega.{arith}
 use lib.ListN.{length}
 use lib.Pow.{pow-add}
@@ -16,6 +16,7 @@ use Rattle.algebra.proofs.Counting.{injective-fills}
 use Rattle.algebra.proofs.Lists.{member-equal}
 use Rattle.algebra.proofs.Products.{pairRing, pair-path}
 use Rattle.algebra.proofs.RingLaws.{add-left-cancel}
+use Rattle.algebra.proofs.PrimePowers.{pow-one}
 use Rattle.algebra.proofs.Subrings.{Subring, numeral-in, power-in, constants, constants-length, constants-subring, extended, extended-length, adjoin-root}
 use Rattle.array.specs.Words.{Words}
 use Rattle.array.proofs.Words.{words-length}
@@ -29,9 +30,6 @@ use Rattle.quotient.proofs.Ring.{residueRing}
 use Rattle.quotient.proofs.Substitution.{Homomorphism, homomorphism-numeral, homomorphism-power, homomorphism-evaluate, modulusAt-is, substitute-is}
 use Rattle.galois.specs.Express.{Independent}
 use Rattle.galois.proofs.Tower.{Tower}
-
-pow-one : (m : ℕ) → m ^ 1 ≡ m
-pow-one m = pow-suc m 0 ∙ simp (pow-zero, one-mul)
 
 pow-mul : (m j k : ℕ) → m ^ (j * k) ≡ (m ^ j) ^ k
 pow-mul m j zero = simp (mul-zero, pow-zero)

@@ -10,7 +10,7 @@ use native.Mathlib.Omega.{arith}
 use lib.ListN.{length, getD, replicate, length-replicate}
 use Rattle.array.proofs.Ranges.{zeros-word}
 use Rattle.sieve.specs.Contracts.{Sieved, SievedBelow, Outside, Room, Clear}
-use Rattle.sieve.proofs.Powers.{power-rises, power-doubles}
+use Rattle.sieve.proofs.Powers.{power-monotone, power-doubles}
 use Rattle.sieve.proofs.sieve.Kept.{room-kept, sieved-kept}
 
 pub record Degrees (p n m : ℕ) (xs codes marks : List ℕ) : Type 0 where
@@ -43,7 +43,7 @@ below-fewer p d e marks l h = record { each = λ i positive b. h .each i positiv
 module _ (p n m : ℕ) (xs codes marks : List ℕ) (big : 2 ≤ p) (h : Degrees p n m xs codes marks) where
   -- degree m
   pub degree-fits : m ≤ n / 2 → p ^ n ≤ 65536 → p ^ m ≤ 65536
-  degree-fits l small = let r : p ^ m ≤ p ^ n = power-rises p big m n (omega arith) in omega arith
+  degree-fits l small = let r : p ^ m ≤ p ^ n = power-monotone p big m n (omega arith) in omega arith
 
   pub degree-below : SievedBelow p (m / 2 + 1) marks
   degree-below = below-fewer p (m / 2 + 1) m marks (omega (arith, h .low)) (h .below)
@@ -77,5 +77,5 @@ module _ (p n m : ℕ) (xs codes marks : List ℕ) (big : 2 ≤ p) (h : Degrees 
 
     pub last-clear : 1 ≤ n → Clear (p ^ n) marks
     last-clear positive =
-        let r : p ^ m ≤ p ^ n = power-rises p big m n (omega (arith, h .within)) in
+        let r : p ^ m ≤ p ^ n = power-monotone p big m n (omega (arith, h .within)) in
         record { words = λ i l. h .clear .words i (omega arith) }

@@ -8,7 +8,7 @@ use native.Mathlib.Omega.{arith}
 use lib.ListN.{length, getD}
 use Rattle.array.specs.Digits.{digits}
 use Rattle.sieve.specs.Contracts.{StruckBy, Sieved, Progress, Outside}
-use Rattle.sieve.proofs.Powers.{power-rises}
+use Rattle.sieve.proofs.Powers.{power-monotone}
 use Rattle.sieve.proofs.sieve.Kept.{outside-none, outside-more, outside-struck, sieved-kept}
 use Rattle.sieve.proofs.sieve.Progress.{progress-struck, progress-skipped, progress-end}
 
@@ -23,7 +23,7 @@ pub record Passing (p n m size c : ℕ) (xs codes old marks : List ℕ) : Type 0
 
 module _ (p n m : ℕ) (big : 2 ≤ p) (low : 1 ≤ n) (half : n + n ≤ m) where
   pub size-fits : p ^ m ≤ 65536 → p ^ n ≤ 65536
-  size-fits small = let h : p ^ n ≤ p ^ m = power-rises p big n m (omega arith) in omega arith
+  size-fits small = let h : p ^ n ≤ p ^ m = power-monotone p big n m (omega arith) in omega arith
 
   pub passing-none : (size : ℕ) (xs codes marks : List ℕ) → p ^ m ≤ 65536 → size ≡ p ^ n → length xs ≡ 32768 → length codes ≡ 32768
       → Progress p m n 0 marks → Passing p n m size 0 xs codes marks marks

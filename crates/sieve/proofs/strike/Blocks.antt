@@ -2,7 +2,7 @@
 use mathlib.Core.Path.{_≡_, ap, _∙_}
 use mathlib.Core.List.{List}
 use Prim.Native.Nat.{ℕ, _+_, _-_, _*_, _^_, _≤_}
-use native.Mathlib.Nat.{mul-le-mul-left, le-refl}
+use native.Mathlib.Nat.{le-refl}
 use native.Mathlib.Omega.{arith}
 use lib.ListN.{take}
 use Rattle.array.specs.Array.{padded, Holds}
@@ -11,15 +11,15 @@ use Rattle.array.specs.Words.{Words}
 use Rattle.array.proofs.Digits.{digits-words}
 use Rattle.array.proofs.Padded.{front-is, holds-is}
 use Rattle.sieve.specs.Contracts.{WordsBelow, Lows, Struck, StruckBy}
-use Rattle.sieve.proofs.Powers.{power-parts, power-one, power-rises}
+use Rattle.sieve.proofs.Powers.{power-parts, power-monotone, lower-most, prime-most}
 use Rattle.sieve.proofs.strike.Multiples.{lows-below, lows-struck}
 
 module _ (p n m : ℕ) (big : 2 ≤ p) (low : 1 ≤ n) (half : n + n ≤ m) (small : p ^ m ≤ 65536) where
   power-fits : (i : ℕ) → i ≤ m → p ^ i ≤ 65536
-  power-fits i l = let h : p ^ i ≤ p ^ m = power-rises p big i m l in omega arith
+  power-fits i l = let h : p ^ i ≤ p ^ m = power-monotone p big i m l in omega arith
 
   pub modulus-small : p ≤ 1048576
-  modulus-small = omega (arith, power-fits 1 (omega arith), power-one p)
+  modulus-small = omega (arith, prime-most p m big small (omega arith))
 
   pub size-fits : p ^ n ≤ 65536
   size-fits = power-fits n (omega arith)
@@ -35,10 +35,7 @@ module _ (p n m : ℕ) (big : 2 ≤ p) (low : 1 ≤ n) (half : n + n ≤ m) (sma
   blocks = power-parts p n (m - n) ∙ ap (λ i. p ^ i) whole
 
   few-blocks : p ^ (m - n) ≤ 32768
-  few-blocks =
-      let two : 2 ≤ p ^ n = omega (arith, power-rises p big 1 n low, power-one p) in
-      let twice : p ^ (m - n) * 2 ≤ p ^ (m - n) * p ^ n = mul-le-mul-left (p ^ (m - n)) two in
-      omega (arith, blocks)
+  few-blocks = lower-most p m big small (m - n) (omega arith)
 
   module _ (r : ℕ) (same : r ≡ p) where
     pub divisor-fits : r ^ (n + (m - n)) ≤ 65536
