@@ -1,0 +1,2 @@
+-- The laws on which the proofs of the loops over the marks rest.
+mod Loops
