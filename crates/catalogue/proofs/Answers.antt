@@ -1,32 +1,48 @@
 -- The answers of the two calls: a refusal by p and n stays, and else what the sieve left unmarked are the models.
-use mathlib.Core.Path.{_≡_, refl, sym, ap, ap₂, _∙_}
-use mathlib.Core.Bool.{Bool, true, false, not}
+use mathlib.Core.Path.{_≡_, refl, sym, ap, _∙_}
+use mathlib.Core.Bool.{false, not}
 use mathlib.Core.List.{List, map, flatten}
 use Prim.Native.Nat.{ℕ, _-_, _*_, _^_, _≤_, _<_}
 use native.Mathlib.Nat.{mul-le-mul}
 use native.Mathlib.Omega.{arith}
-use borrow.Author.Tests.{eqb-true, eq-eqb, ne-eqb, not-false}
+use borrow.Author.Tests.{ltb-false, eqb-true, eq-eqb, ne-eqb, not-false}
 use lib.Dec.{eqb, ltb}
 use lib.ListN.{length}
 use Rattle.array.specs.Digits.{digits}
 use Rattle.refusal.specs.Refusal.{refuse, badPrime, badDegree}
-use Rattle.refusal.proofs.Refusal.{refuse-none, Follows, passed, follows-next, follows-stays, follows-passes}
+use Rattle.refusal.proofs.Refusal.{refuse-none, prime-bounds, degree-given, Follows, passed, follows-next, follows-stays, follows-passes}
 use Rattle.refusal.proofs.Written.{output-new, output-old}
 use Rattle.sieve.specs.Contracts.{Sieved}
 use Rattle.catalogue.specs.Catalogue.{mostPolynomials, models, countNumber, modelCount, listNumber, listOutput}
-use Rattle.catalogue.specs.Marks.{unmarked, Size}
-use Rattle.catalogue.proofs.Unmarked.{unmarked-models, unmarked-count, unmarked-short}
+use Rattle.catalogue.specs.Marks.{unmarked}
+use Rattle.catalogue.proofs.Unmarked.{unmarked-models, unmarked-count}
 
--- what the number 0 leaves
-pub size-of : (p n number : ℕ) → (number ≡ 0 → Size p n) → number ≡ 0 → Size p n
-size-of p n number given h = given h
+-- what the number 0 leaves of p and n
+module _ (p n number : ℕ) (e : number ≡ countNumber p n) (h : number ≡ 0) where
+  none-applies : (badPrime p ≡ false) × (badDegree n ≡ false) × (ltb mostPolynomials (p ^ n) ≡ false)
+  unfolding countNumber
+  none-applies =
+      let (prime, after1) = refuse-none 0 (badPrime p) _ (sym e ∙ h) in
+      let (degree, after2) = refuse-none 1 (badDegree n) _ after1 in
+      (prime, degree, refuse-none 28 (ltb mostPolynomials (p ^ n)) 0 after2 .0)
 
-module _ (p n : ℕ) (size : Size p n) where
+  pub prime-low : 2 ≤ p
+  prime-low = prime-bounds p (none-applies .0) .0
+
   pub prime-positive : 1 ≤ p
-  prime-positive = omega (arith, size .prime .0)
+  prime-positive = omega (arith, prime-low)
 
-  pub size-small : (k : ℕ) → k ≡ p ^ n → k ≤ 65536
-  size-small k e = rw e (size .few)
+  pub degree-low : 1 ≤ n
+  degree-low = degree-given n (none-applies .1) .0
+
+  pub degree-high : n ≤ 16
+  degree-high = degree-given n (none-applies .1) .1
+
+  pub power-few : p ^ n ≤ 65536
+  power-few = ltb-false mostPolynomials (p ^ n) (none-applies .2)
+
+  pub size-few : (size : ℕ) → size ≡ p ^ n → size ≤ 65536
+  size-few size power = rw power power-few
 
 module _ (p n : ℕ) where
   pub count-is : countNumber p n ≡ 0 → modelCount p n ≡ length (models p n)
@@ -98,6 +114,7 @@ module _ (p n : ℕ) where
 pub room-given : (n size count : ℕ) (marks out : List ℕ) → count ≡ length (unmarked size marks) → length out ≡ n * count → length out ≡ n * length (unmarked size marks)
 room-given n size count marks out counted room = room ∙ ap (λ k. n * k) counted
 
+-- the product of two 32-bit numbers
 pub product-fits : (n count : ℕ) → n < 2 ^ 32 → count < 2 ^ 32 → n * count < 2 ^ 64
 product-fits n count h k =
     let a : n ≤ 2 ^ 32 - 1 = omega arith in

@@ -1,12 +1,9 @@
 -- What a test keeps of a list: of two lists one after the other, of the images of a list, and by two tests that agree. Each by induction on the list, and by the
 -- test of its first element.
-use mathlib.Core.Path.{_≡_, refl, sym, ap, ap₂, _∙_}
+use mathlib.Core.Path.{_≡_, refl, ap, ap₂, _∙_}
 use mathlib.Core.Bool.{Bool, true, false}
 use mathlib.Core.List.{List, [], _∷_, _++_, map}
 use mathlib.Core.Logic.{inl, inr}
-use Prim.Native.Nat.{_≤_}
-use native.Mathlib.Omega.{arith}
-use lib.ListN.{length}
 use Rattle.algebra.specs.Lists.{Member, filter}
 
 -- an element before what a test keeps of the others
@@ -26,15 +23,6 @@ module _ {A : Type 0} (test : A → Bool) where
   pub filter-one : (x : A) → filter test (x ∷ []) ≡ kept (test x) x []
   unfolding filter
   filter-one x = refl
-
-  pub filter-shorter : (xs : List A) → length (filter test xs) ≤ length xs
-  unfolding filter
-  filter-shorter [] = omega arith
-  filter-shorter (x ∷ xs) = by-test (test x) (filter-shorter xs)
-    where
-      by-test : (b : Bool) → length (filter test xs) ≤ length xs → length (kept b x (filter test xs)) ≤ length (x ∷ xs)
-      by-test true h = omega arith
-      by-test false h = omega arith
 
   pub filter-same : (other : A → Bool) (xs : List A) → ((x : A) → Member x xs → test x ≡ other x) → filter test xs ≡ filter other xs
   unfolding filter

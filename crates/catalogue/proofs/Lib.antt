@@ -2,6 +2,5 @@
 mod Filter
 mod Flatten
 mod Unmarked
-mod Sizes
 mod Answers
 pub mod Theorem

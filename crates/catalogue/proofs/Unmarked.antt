@@ -1,6 +1,6 @@
 -- The codes below c that are not marked. They are those that the loops have passed before a turn at c; a turn adds code c where it is not marked. Where the marks are those of
 -- the sieve, the digits of all of them are the models: both are the digits of the codes below p^n that pass the same test.
-use mathlib.Core.Path.{_≡_, refl, sym, ap, ap₂, _∙_}
+use mathlib.Core.Path.{_≡_, refl, sym, ap, _∙_}
 use mathlib.Core.Bool.{Bool, true, false, not}
 use mathlib.Core.List.{List, [], _∷_, _++_, append-nil, map}
 use Prim.Native.Nat.{ℕ, _+_, _-_, _^_, _≤_, _<_}
@@ -10,19 +10,21 @@ use borrow.Author.Tests.{eq-eqb, ne-eqb}
 use lib.Dec.{eqb}
 use lib.ListN.{length, getD, length-append, length-map}
 use Rattle.algebra.specs.Lists.{Member, filter, range}
-use Rattle.algebra.proofs.Search.{range-append, range-length, range-bounds}
+use Rattle.algebra.proofs.Search.{range-append, range-bounds}
 use Rattle.array.specs.Digits.{digits}
 use Rattle.quotient.specs.DivisorTest.{hasDivisor}
 use Rattle.quotient.proofs.Numbering.{residues-digits}
 use Rattle.sieve.specs.Contracts.{Sieved, bit}
 use Rattle.catalogue.specs.Catalogue.{models}
 use Rattle.catalogue.specs.Marks.{unmarked}
-use Rattle.catalogue.proofs.Filter.{filter-append, filter-one, filter-shorter, filter-same, filter-map}
+use Rattle.catalogue.proofs.Filter.{filter-append, filter-one, filter-same, filter-map}
 
 module _ (size : ℕ) (marks : List ℕ) where
+  -- whether code c is not marked
   abbrev free : ℕ → Bool
   free c = eqb (getD marks (size + c) 0) 0
 
+  -- the codes below c that are not
   pub unmarkedBelow : ℕ → List ℕ
   unmarkedBelow c = filter free (range 0 c)
 
@@ -33,10 +35,6 @@ module _ (size : ℕ) (marks : List ℕ) where
   pub below-all : unmarkedBelow size ≡ unmarked size marks
   unfolding unmarked unmarkedBelow
   below-all = refl
-
-  pub below-short : (c : ℕ) → length (unmarkedBelow c) ≤ c
-  unfolding unmarkedBelow
-  below-short c = omega (arith, filter-shorter free (range 0 c), range-length 0 c)
 
   -- c codes, and k codes from c on
   below-append : (c k : ℕ) → unmarkedBelow (c + k) ≡ unmarkedBelow c ++ filter free (range c k)
@@ -56,14 +54,12 @@ module _ (size : ℕ) (marks : List ℕ) where
   below-marked c h =
       below-next c ∙ ap (λ b. unmarkedBelow c ++ elim b [ true ↦ c ∷ [] | false ↦ [] ]) (ne-eqb (getD marks (size + c) 0) 0 h) ∙ append-nil (unmarkedBelow c)
 
+  -- they are among all that are not marked
   pub below-few : (c : ℕ) → c ≤ size → length (unmarkedBelow c) ≤ length (unmarked size marks)
   below-few c l =
       let whole : c + (size - c) ≡ size = omega arith in
       let parts : unmarked size marks ≡ unmarkedBelow c ++ filter free (range c (size - c)) = sym below-all ∙ ap unmarkedBelow (sym whole) ∙ below-append c (size - c) in
       omega (arith, ap length parts, length-append (unmarkedBelow c) (filter free (range c (size - c))))
-
-  pub unmarked-short : length (unmarked size marks) ≤ size
-  unmarked-short = rw (← below-all) (below-short size)
 
 -- a mark is 0 exactly where there is no divisor
 bit-test : (b : Bool) → not b ≡ eqb (bit b) 0

@@ -8,7 +8,7 @@
 --   modelCount p n       its count: how many models there are where the number is 0, else 0
 --   listNumber p n out   the number of the second call: 1, 2, 29, 3 or 0
 --   listOutput p n out   what the list lent to it holds after the call: the models one after the other where the number is 0, else what it held
-use mathlib.Core.Bool.{Bool, true, false, not}
+use mathlib.Core.Bool.{true, false, not}
 use mathlib.Core.List.{List, flatten}
 use Prim.Native.Nat.{ℕ, _*_, _^_}
 use lib.Dec.{eqb, ltb}

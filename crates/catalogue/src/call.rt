@@ -1,7 +1,6 @@
 // The public calls. On a refusal the list lent for the models is as found.
 ghost use mathlib.Core.Path.{_≡_};
-ghost use Rattle.catalogue.specs.Catalogue.{models, countNumber, modelCount, listNumber, listOutput};
-ghost use Rattle.catalogue.specs.Marks.{Size};
+ghost use Rattle.catalogue.specs.Catalogue.{countNumber, modelCount, listNumber, listOutput};
 use crate::marks::count_unmarked;
 use crate::marks::write_unmarked;
 use crate::number::count_number;

@@ -31,13 +31,13 @@ pub fn write_unmarked(p: u32, n: usize, size: usize, marks: &[u8; 131072], out: 
     ensures { λ _. ⌜ now (out .exit) ≡ flatten (map (digits p n) (unmarked size (now (marks .entry)))) ⌝ }
 {
     let mut at = 0;
-    let mut c = 0;
-    while c < size {
-        if marks[size + c] == 0 {
+    let mut code = 0;
+    while code < size {
+        if marks[size + code] == 0 {
             let next = at + n;
-            write_digits(p, c as u32, &mut out[at..next]);
+            write_digits(p, code as u32, &mut out[at..next]);
             at = next;
         }
-        c += 1;
+        code += 1;
     }
 }

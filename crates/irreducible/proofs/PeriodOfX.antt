@@ -30,7 +30,7 @@ module _ {p n : ℕ} {t : List ℕ} (prime : Prime p) (wt : Words p (suc n) t) w
   x = xResidue (prime .0) wt
 
   -- X^(p^k) = X makes u^(p^k) = u for every residue u = u(X)
-  all-fixed : (k : ℕ) → power K x (p ^ k) ≡ x → (u : Residue p (suc n)) → power K u (p ^ k) ≡ u
+  pub all-fixed : (k : ℕ) → power K x (p ^ k) ≡ x → (u : Residue p (suc n)) → power K u (p ^ k) ≡ u
   unfolding reduce
   all-fixed k e u =
       let value : evaluate K (u .0) x ≡ u = reduce-residue (prime .0) wt u in

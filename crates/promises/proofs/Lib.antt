@@ -1,4 +1,4 @@
--- The proofs of all promises, of the examples, the cards, the sheets, the reports, the maps, the matrices, the differences, the towers and the table in parts.
+-- The proofs of all promises, of the examples, the cards, the sheets, the reports, the maps, the matrices, the differences, the models, the towers and the table in parts.
 mod Promises
 mod Examples
 mod CardExamples
@@ -7,6 +7,8 @@ mod LedgerExamples
 mod MapsExamples
 mod MatrixExamples
 mod DifferencesExamples
+mod CatalogueExamples
+mod ListedModels
 mod TowerExamples
 mod OpenTableExamples
 mod Listed

@@ -2,11 +2,13 @@
 use Rattle.answer.proofs.LongInput as Answer
 use Rattle.bymatrix.proofs.Theorem as ByMatrix
 use Rattle.card.proofs.Theorem as Card
+use Rattle.catalogue.proofs.Theorem as Catalogue
 use Rattle.differences.proofs.Theorem as Differences
 use Rattle.runs.proofs.OverC as Values
 use Rattle.finder.proofs.Theorem as Finder
 use Rattle.finder.proofs.Rounds as Rounds
 use Rattle.finder.proofs.Triangle as Triangle
+use Rattle.gauss.proofs.Theorem as Gauss
 use Rattle.irreducible.proofs.Theorem as Irreducible
 use Rattle.ledger.proofs.Theorem as Ledger
 use Rattle.maps.proofs.Theorem as Maps
@@ -22,9 +24,11 @@ use Rattle.text.proofs.Theorem as Text
 use Rattle.text.proofs.ColumnDetermines as Columns
 use Rattle.promises.specs.Promises.{Promises}
 use Rattle.promises.proofs.CardExamples as CardExamples
+use Rattle.promises.proofs.CatalogueExamples as CatalogueExamples
 use Rattle.promises.proofs.DifferencesExamples as DifferencesExamples
 use Rattle.promises.proofs.Examples as Examples
 use Rattle.promises.proofs.LedgerExamples as LedgerExamples
+use Rattle.promises.proofs.ListedModels as ListedModels
 use Rattle.promises.proofs.MapsExamples as MapsExamples
 use Rattle.promises.proofs.MatrixExamples as MatrixExamples
 use Rattle.promises.proofs.OpenTableExamples as OpenTableExamples
@@ -99,6 +103,12 @@ promises =
       each-restored = Differences.each-restored;
       every-table-comes-back = Differences.every-table-comes-back;
       differences-examples = DifferencesExamples.differences-examples;
+      every-model = Catalogue.every-model;
+      count-is-listed = Catalogue.count-is-listed;
+      listed-is-irreducible = ListedModels.listed-is-irreducible;
+      finder-takes-listed = ListedModels.finder-takes-listed;
+      catalogue-examples = CatalogueExamples.catalogue-examples;
+      gauss-formula = Gauss.gauss-formula;
       values-follow = Values.values-follow;
       examples = Examples.examples;
     }

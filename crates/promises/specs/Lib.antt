@@ -1,4 +1,4 @@
--- All that is promised, the examples of document 01, wide cards, two sheets, two reports, the maps of one pair, the matrices of two, tables as differences, two towers and a table in parts.
+-- All that is promised, the examples of document 01, wide cards, two sheets, two reports, the maps of one pair, the matrices of two, tables as differences, the models of some sizes, two towers and a table in parts; and what the finder makes of listed models.
 pub mod Promises
 pub mod Examples
 pub mod CardExamples
@@ -7,5 +7,7 @@ pub mod LedgerExamples
 pub mod MapsExamples
 pub mod MatrixExamples
 pub mod DifferencesExamples
+pub mod CatalogueExamples
+pub mod ListedModels
 pub mod TowerExamples
 pub mod OpenTableExamples

@@ -8,6 +8,7 @@
 use Rattle.answer.specs.Theorem.{LongInput}
 use Rattle.bymatrix.specs.Theorem.{MatrixColumns, MatrixIsSubstitution, EveryMatrix, MatricesAreInverse}
 use Rattle.card.specs.Theorem.{WrittenReadsBack, ReadIsWritten, OneMeaning, LongestCard, NarrowAsBefore}
+use Rattle.catalogue.specs.Theorem.{EveryModel, CountIsListed}
 use Rattle.differences.specs.Theorem.{EachDifference, EachRestored, EveryTableComesBack}
 use Rattle.runs.specs.OverC.{ValuesFollow}
 use Rattle.finder.specs.Rounds.{RoundsDecide, OneTower}
@@ -15,6 +16,7 @@ use Rattle.finder.specs.Scalings.{ScalingsAreCounted}
 use Rattle.finder.specs.Stored.{EveryScalingAccepted}
 use Rattle.finder.specs.Theorem.{Demand3Theorem}
 use Rattle.finder.specs.Triangle.{TriangleTheorem}
+use Rattle.gauss.specs.Gauss.{GaussFormula}
 use Rattle.modular.specs.Prime.{PrimeTestIsExact}
 use Rattle.irreducible.specs.Irreducible.{IrreducibleTheorem}
 use Rattle.irreducible.specs.Rabin.{RabinsCriterion}
@@ -29,9 +31,11 @@ use Rattle.runs.specs.Theorem.{EveryRun, RefusalsChangeNothing, GroupByGroup, B
 use Rattle.sheet.specs.Theorem.{SheetHasLength, SheetDetermines}
 use Rattle.text.specs.Theorem.{DecimalIsDecimal, ColumnDetermines}
 use Rattle.promises.specs.CardExamples.{CardExamples}
+use Rattle.promises.specs.CatalogueExamples.{CatalogueExamples}
 use Rattle.promises.specs.DifferencesExamples.{DifferencesExamples}
 use Rattle.promises.specs.Examples.{Examples}
 use Rattle.promises.specs.LedgerExamples.{LedgerExamples}
+use Rattle.promises.specs.ListedModels.{ListedIsIrreducible, FinderTakesListed}
 use Rattle.promises.specs.MapsExamples.{MapsExamples}
 use Rattle.promises.specs.MatrixExamples.{MatrixExamples}
 use Rattle.promises.specs.OpenTableExamples.{OpenTableExamples}
@@ -138,6 +142,15 @@ pub record Promises : Type 0 where
   pub each-restored : EachRestored
   pub every-table-comes-back : EveryTableComesBack
   pub differences-examples : DifferencesExamples
+  -- Every model of a size, request S-12 (catalogue/specs/Theorem.antt, specs/ListedModels.antt): the list has every monic polynomial of degree n without a monic divisor of degree 1 to n − 1,
+  -- in ascending order, none twice, and nothing else; the count is its length; what it has are the moduli that the call for one modulus takes, and the finder refuses none of them with 6
+  -- or 7; models computed (specs/CatalogueExamples.antt). For teaching (gauss/specs/Gauss.antt): Gauss's formula for their number
+  pub every-model : EveryModel
+  pub count-is-listed : CountIsListed
+  pub listed-is-irreducible : ListedIsIrreducible
+  pub finder-takes-listed : FinderTakesListed
+  pub catalogue-examples : CatalogueExamples
+  pub gauss-formula : GaussFormula
   -- Over C (runs/specs/OverC.antt): every list of calls makes of a new value one that is taken for the session that it makes of a new session
   pub values-follow : ValuesFollow
   -- Small fields by hand, A to I (specs/Examples.antt)

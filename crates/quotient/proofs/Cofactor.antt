@@ -12,7 +12,7 @@ use lib.ListN.{length, replicate}
 use Rattle.array.specs.Words.{Words, none, more}
 use Rattle.array.proofs.Words.{words-length, snoc-words}
 use Rattle.quotient.specs.Residue.{Residue, top}
-use Rattle.quotient.specs.Divisor.{Divides, HasDivisor, polynomialProduct, monic}
+use Rattle.quotient.specs.Divisor.{Same, Divides, HasDivisor, polynomialProduct, monic}
 use Rattle.quotient.proofs.Action.{PolynomialModule, act, act-same, act-zeros, act-comm, act-product}
 use Rattle.quotient.proofs.Operations.{constant-zero, top-below}
 use Rattle.quotient.proofs.TimesX.{top-zeros, top-last}
@@ -73,11 +73,11 @@ module _ {p m : ℕ} {d : List ℕ} (big : 2 ≤ p) (wd : Words p (suc m) d) whe
         ∙ ap₂ (M .add) (ap (act M (monic d)) quotient-acts) (ap (λ r. act M r v) remainder-zero ∙ act-zeros M (suc m) v)
         ∙ M .add-zero _)
 
-    -- T = D·E, and E divides T
-    pub cofactor : (j n : ℕ) → n ≡ suc m + j → Words p n t → (e : List ℕ) × Words p j e × Divides p e t
+    -- T = E·D with a monic E
+    pub cofactor : (j n : ℕ) → n ≡ suc m + j → Words p n t → (e : List ℕ) × Words p j e × Same p (polynomialProduct p (monic e) (monic d)) (monic t)
     cofactor j n l wt =
         let (e, we, q) = quotient-monic j n t l wt in
-        (e, we, (monic d, same-of-actions big (polynomialProduct p (monic e) (monic d)) (monic t) (cofactor-acts e q)))
+        (e, we, same-of-actions big (polynomialProduct p (monic e) (monic d)) (monic t) (cofactor-acts e q))
 
 -- of two degrees that add up to n one is at most n/2
 pub half-degree : {p n : ℕ} {t : List ℕ} → 2 ≤ p → Words p n t → HasDivisor p t
@@ -91,5 +91,5 @@ half-degree {p} {n} {t} big wt (suc m, pos, l, d, wd, h) = by-degree (decLe (suc
     by-degree : Dec (suc m + suc m ≤ n) → (m : ℕ) × (0 < m) × (m + m ≤ n) × (d : List ℕ) × Words p m d × Divides p d t
     by-degree (yes low) = (suc m, pos, low, d, wd, h)
     by-degree (no high) =
-        let (e, we, g) = cofactor big wd t h (n - suc m) n (omega (arith, size)) wt in
-        (n - suc m, omega (arith, size), omega arith, e, we, g)
+        let (e, we, same) = cofactor big wd t h (n - suc m) n (omega (arith, size)) wt in
+        (n - suc m, omega (arith, size), omega arith, e, we, (monic d, same))

@@ -21,7 +21,7 @@ use Rattle.quotient.proofs.Substitution.{Homomorphism}
 use Rattle.quotient.proofs.Units.{Invertible, nonzero-invertible, zeros-same}
 
 -- a list with a 1 in it is not 0
-one-among-zeros : (d zs : List ℕ) (n : ℕ) → d ++ 1 ∷ zs ≡ replicate n 0 → ⊥
+pub one-among-zeros : (d zs : List ℕ) (n : ℕ) → d ++ 1 ∷ zs ≡ replicate n 0 → ⊥
 one-among-zeros [] zs zero e = let h : suc (length zs) ≡ 0 = ap length e in omega arith
 one-among-zeros [] zs (suc n) e = let h : _≡_ {A = ℕ} 1 0 = head-eq-of-cons-eq e in omega arith
 one-among-zeros (a ∷ d) zs zero e = let h : suc (length (d ++ 1 ∷ zs)) ≡ 0 = ap length e in omega arith

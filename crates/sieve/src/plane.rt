@@ -1,5 +1,6 @@
 // Word j of the sums x_0·D + x_1·X·D + x_2·X²·D + … modulo D, for all numbers x of k digits at once. With each further digit there are p times as many, in p blocks: block a has the
 // words so far, each plus a times word j of X^k·D.
+ghost use mathlib.Core.Logic.{_⊎_};
 ghost use mathlib.Core.Path.{_≡_};
 ghost use Prim.Native.Nat.{_+_, _*_, _%_, _^_, _≤_, _<_};
 ghost use lib.ListN.{length, getD, take};
@@ -27,6 +28,13 @@ pub fn narrow(x: u64) -> u16
     x as u16
 }
 
+// The smaller of two numbers.
+fn smaller(a: usize, b: usize) -> usize
+    ensures { λ r. ⌜ (r ≤ a) × (r ≤ b) × ((r ≡ a) ⊎ (r ≡ b)) ⌝ }
+{
+    if a < b { a } else { b }
+}
+
 // The block from word `to` on: the first words, each plus v.
 fn add_block(p: u16, size: usize, to: usize, v: u16, xs: &mut [u16; 32768])
     requires { ⌜ (p ≤ 256) × (v < p) × (size ≤ to) × (to + size ≤ 32768) ⌝ }
@@ -40,23 +48,24 @@ fn add_block(p: u16, size: usize, to: usize, v: u16, xs: &mut [u16; 32768])
     }
 }
 
-// The p blocks for one more word, of which the first is there: block a has the first words plus a·c. Handed back is how many words there are then.
+// The p blocks for one more word, of which the first is there: block a has the first words plus a·c. In each turn all blocks that are there are added to at once, so that their number
+// doubles; in the last turn only as many as are left. Handed back is how many words there are then.
 fn extend(p: u16, size: usize, c: u16, xs: &mut [u16; 32768]) -> usize
-    requires { ⌜ (2 ≤ p) × (p ≤ 256) × (c < p) × (p * size ≤ 32768) ⌝ }
+    requires { ⌜ (2 ≤ p) × (p ≤ 256) × (c < p) × (1 ≤ size) × (p * size ≤ 32768) ⌝ }
     requires { ⌜ WordsBelow p size (now xs) ⌝ }
     ensures { λ r. ⌜ r ≡ p * size ⌝ }
     ensures { λ _. ⌜ Extended p p size c (now (xs .entry)) (now (xs .exit)) ⌝ }
 {
+    let end = p as usize * size;
     let mut v = c;
     let mut to = size;
-    let mut a = 1;
-    while a < p {
-        add_block(p, size, to, v, xs);
-        v = add(p, v, c);
-        to += size;
-        a += 1;
+    while to < end {
+        let more = smaller(to, end - to);
+        add_block(p, more, to, v, xs);
+        v = add(p, v, v);
+        to += more;
     }
-    to
+    end
 }
 
 // Word j of a residue, in 16 bits.

@@ -1,7 +1,7 @@
 -- The loops over the marks: before a turn at c the codes below c are done, and a turn counts, or writes, code c where it is not marked.
 --   Counting   the invariant of `count_unmarked`
 --   Writing    the invariant of `write_unmarked`: the first words are the digits of the codes done
-use mathlib.Core.Path.{_≡_, refl, sym, ap, ap₂, _∙_}
+use mathlib.Core.Path.{_≡_, sym, ap, ap₂, _∙_}
 use mathlib.Core.List.{List, [], _∷_, _++_, append-assoc, append-nil, map, map-append, flatten}
 use Prim.Native.Nat.{ℕ, _+_, _-_, _*_, _≤_, _<_}
 use native.Mathlib.Nat.{add-sub-cancel-left, mul-zero, mul-le-mul-left}
@@ -13,7 +13,7 @@ use Rattle.array.specs.Digits.{digits}
 use Rattle.array.proofs.Digits.{digits-length}
 use Rattle.catalogue.specs.Marks.{unmarked}
 use Rattle.catalogue.proofs.Flatten.{flatten-append}
-use Rattle.catalogue.proofs.Unmarked.{unmarkedBelow, below-zero, below-all, below-short, below-free, below-marked, below-few}
+use Rattle.catalogue.proofs.Unmarked.{unmarkedBelow, below-zero, below-all, below-free, below-marked, below-few}
 
 -- how many
 
@@ -49,6 +49,7 @@ module _ (size count c : ℕ) (marks : List ℕ) (h : Counting size marks count 
 pub record Writing (p n size : ℕ) (marks out : List ℕ) (at c : ℕ) : Type 0 where
   pub within : c ≤ size
   pub room : length out ≡ n * length (unmarked size marks)
+  pub inside : at ≤ length out
   pub place : at ≡ n * length (unmarkedBelow size marks c)
   pub words : take at out ≡ flatten (map (digits p n) (unmarkedBelow size marks c))
 
@@ -58,6 +59,7 @@ write-starts p n size marks out room =
     record {
       within = omega arith;
       room = room;
+      inside = omega arith;
       place = sym (ap (λ l. n * length l) (below-zero size marks) ∙ mul-zero n);
       words = sym (ap (λ l. flatten (map (digits p n) l)) (below-zero size marks));
     }
@@ -101,9 +103,11 @@ module _ (p n size at c : ℕ) (marks out : List ℕ) (h : Writing p n size mark
 
       pub write-turn : (out′ : List ℕ) (at′ : ℕ) → out′ ≡ putMid at (at + n - at) out z → at′ ≡ at + n → Writing p n size marks out′ at′ (c + 1)
       write-turn out′ at′ e f =
+          let same : length out′ ≡ length out = ap length e ∙ same-len-mid at (at + n - at) out z (new-length ∙ sym part-length) in
           record {
             within = omega arith;
-            room = ap length e ∙ same-len-mid at (at + n - at) out z (new-length ∙ sym part-length) ∙ h .room;
+            room = same ∙ h .room;
+            inside = omega (arith, next-ends, same);
             place = f ∙ sym one-more;
             words = ap₂ take f e ∙ front ∙ ap₂ _++_ (h .words) new-words ∙ sym digits-next;
           }
@@ -113,6 +117,7 @@ module _ (p n size at c : ℕ) (marks out : List ℕ) (h : Writing p n size mark
       record {
         within = omega arith;
         room = ap length e ∙ h .room;
+        inside = omega (arith, ap length e, h .inside);
         place = f ∙ h .place ∙ ap (λ l. n * length l) (sym (below-marked size marks c marked));
         words = ap₂ take f e ∙ h .words ∙ ap (λ l. flatten (map (digits p n) l)) (sym (below-marked size marks c marked));
       }

@@ -2,7 +2,7 @@
 use mathlib.Core.Path.{_≡_, refl, sym, ap, _∙_}
 use mathlib.Core.List.{List}
 use Prim.Native.Nat.{ℕ, _+_, _*_, _/_, _%_, _^_, _≤_, _<_}
-use native.Mathlib.Nat.{pow-zero, pow-suc, pow-le-pow-right, div-one}
+use native.Mathlib.Nat.{pow-zero, pow-suc, pow-le-pow-right, div-one, div-eq-of-lt, mod-eq-of-lt}
 use native.Mathlib.Numerals.{add-one}
 use native.Mathlib.Omega.{arith}
 use lib.ListN.{length}
@@ -26,6 +26,14 @@ power-most p k i r some few less e =
 pub power-end : (p k i r : ℕ) → i ≤ k → k ≤ i → r ≡ p ^ i → r ≡ p ^ k
 power-end p k i r l l′ e = let same : i ≡ k = omega arith in e ∙ ap (λ j. p ^ j) same
 
+-- a number below p has one digit
+
+pub below-digit : (p c : ℕ) → c < p → c ≡ c % p
+below-digit p c l = sym (mod-eq-of-lt l)
+
+pub below-others : (p c : ℕ) → c < p → 0 ≡ c / p
+below-others p c l = sym (div-eq-of-lt l)
+
 -- digit i of c
 unfoldable pub digitOf : ℕ → ℕ → ℕ → ℕ
 digitOf p c i = c / p ^ i % p
@@ -33,12 +41,12 @@ digitOf p c i = c / p ^ i % p
 pub rest-all : (p c : ℕ) → c ≡ c / p ^ 0
 rest-all p c = sym (ap (λ x. c / x) (pow-zero p) ∙ div-one c)
 
-pub rest-digit : (p c i rest : ℕ) → rest ≡ c / p ^ i → rest % p ≡ digitOf p c i
+pub rest-digit : (p c i rest r : ℕ) → r ≡ rest % p → rest ≡ c / p ^ i → r ≡ digitOf p c i
 unfolding digitOf
-rest-digit p c i rest e = ap (λ x. x % p) e
+rest-digit p c i rest r f e = f ∙ ap (λ x. x % p) e
 
-pub rest-turn : (p c i rest : ℕ) → rest ≡ c / p ^ i → rest / p ≡ c / p ^ (i + 1)
-rest-turn p c i rest e = ap (λ x. x / p) e ∙ next-digit p i c
+pub rest-turn : (p c i rest r : ℕ) → r ≡ rest / p → rest ≡ c / p ^ i → r ≡ c / p ^ (i + 1)
+rest-turn p c i rest r f e = f ∙ ap (λ x. x / p) e ∙ next-digit p i c
 
 pub digits-written : (p c i : ℕ) (out₀ out : List ℕ) → i ≤ length out₀ → length out ≤ i → length out ≡ length out₀ → out ≡ painted out₀ (digitOf p c) i
     → out ≡ digits p (length out₀) c

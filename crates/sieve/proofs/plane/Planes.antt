@@ -110,6 +110,9 @@ module _ (p n j : ℕ) (t : List ℕ) (big : 2 ≤ p) (some : 1 ≤ n) (place : 
       same ∙ sym (getD-take n w j 0 place) ∙ ap (λ u. getD u j 0) (front-is e (multiple-words big (h .words) (h .words) i))
       ∙ ap (λ i. getD (multiple p D D i) j 0) done
 
+pub plane-some : (p i size : ℕ) → 2 ≤ p → size ≡ p ^ i → 1 ≤ size
+plane-some p i size big e = rw e (Nat.one-le-pow i p (omega arith))
+
 -- there is room for one word more
 pub plane-power : (p i q size size′ : ℕ) → q ≡ p → size ≡ p ^ i → size′ ≡ q * size → size′ ≡ p ^ (i + 1)
 plane-power p i q size size′ f e g = g ∙ ap₂ _*_ f e ∙ sym (Nat.pow-succ' p i) ∙ ap (λ k. p ^ k) (sym (add-one i))

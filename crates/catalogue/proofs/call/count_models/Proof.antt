@@ -1,6 +1,6 @@
 -- A refusal by p and n, or the count of what the sieve left unmarked.
 use borrow.Author.Needs.{needs}
-use Rattle.catalogue.proofs.Answers.{size-of, prime-positive, size-small, count-refused, number-none, count-given}
+use Rattle.catalogue.proofs.Answers.{prime-low, prime-positive, degree-low, degree-high, power-few, size-few, count-refused, number-none, count-given}
 use Rattle.catalogue.proofs.call.count_models.Statement.{statement}
 use Rattle.catalogue.proofs.call.count_models.Tie as tie
 
@@ -11,17 +11,13 @@ returns : tie.Need-returns
 returns c = (search needs, search count-refused)
 
 sieve-requires : tie.Need-sieve-requires
-sieve-requires c κs =
-    let size = c .before .before .count-number .ensures .1 (c .before .if1 .left) in
-    ((search size, search size, search size, search size), search needs)
+sieve-requires c κs = ((search prime-low, search degree-low, search degree-high, search power-few), search needs)
 
 power-requires : tie.Need-power-requires
-power-requires c κs =
-    let size = c .before .before .before .count-number .ensures .1 (c .before .before .if1 .left) in
-    (search (prime-positive, size), search size)
+power-requires c κs = (search prime-positive, search power-few)
 
 count-unmarked-requires : tie.Need-count-unmarked-requires
-count-unmarked-requires c κs = (search (size-small, size-of), search needs)
+count-unmarked-requires c κs = (search size-few, search needs)
 
 returns-2 : tie.Need-returns-2
 returns-2 c = (search number-none, search count-given)

@@ -1,9 +1,12 @@
 -- A refusal by p and n leaves the list alone, and so does 3; else the words of what the sieve left unmarked are written.
 use borrow.Author.Needs.{needs}
 use Rattle.catalogue.proofs.Answers.{
-  size-of,
+  prime-low,
   prime-positive,
-  size-small,
+  degree-low,
+  degree-high,
+  power-few,
+  size-few,
   list-refused,
   output-refused,
   list-three,
@@ -23,17 +26,13 @@ returns : tie.Need-returns
 returns c = (search list-refused, search output-refused)
 
 sieve-requires : tie.Need-sieve-requires
-sieve-requires c κs =
-    let size = c .before .before .count-number .ensures .1 (c .before .if1 .left) in
-    ((search size, search size, search size, search size), search needs)
+sieve-requires c κs = ((search prime-low, search degree-low, search degree-high, search power-few), search needs)
 
 power-requires : tie.Need-power-requires
-power-requires c κs =
-    let size = c .before .before .before .count-number .ensures .1 (c .before .before .if1 .left) in
-    (search (prime-positive, size), search size)
+power-requires c κs = (search prime-positive, search power-few)
 
 count-unmarked-requires : tie.Need-count-unmarked-requires
-count-unmarked-requires c κs = (search (size-small, size-of), search needs)
+count-unmarked-requires c κs = (search size-few, search needs)
 
 cast-if2 : tie.Need-cast-if2
 cast-if2 c = search needs
@@ -45,12 +44,10 @@ returns-2 : tie.Need-returns-2
 returns-2 c = (search list-three, search output-three)
 
 write-unmarked-requires : tie.Need-write-unmarked-requires
-write-unmarked-requires c κs =
-    let size = c .before .before .before .before .before .before .before .before .before .count-number .ensures .1 (c .before .before .before .before .before .before .before .before .if1 .left) in
-    (
-      (search (prime-positive, size), search size, search (size-small, size, c .before .before .before .before .before .power .ensures), search (c .before .before .before .before .before .before .sieve .ensures)),
-      search (room-given, c .before .before .before .count-unmarked .ensures, c .before .before .if2 .left),
-    )
+write-unmarked-requires c κs = (
+  (search prime-positive, search degree-high, search size-few, search needs),
+  search (room-given, c .before .before .before .count-unmarked .ensures, c .before .before .if2 .left),
+)
 
 same-length : tie.Need-same-length
 same-length c = search needs

@@ -1,4 +1,4 @@
--- Before a turn at c the first words are the digits of the codes below c.
+-- Before a turn at a code the first words are the digits of the codes below it.
 use borrow.Author.Needs.{needs}
 use mathlib.Core.Logic.{⊎-elim}
 use Prim.Native.Nat.{_-_}
@@ -7,10 +7,10 @@ use Rattle.catalogue.proofs.marks.write_unmarked.Statement.{statement}
 use Rattle.catalogue.proofs.marks.write_unmarked.Tie as tie
 
 abbrev Inv-loop : tie.InvT-loop
-Inv-loop p n size marks out₀ at₀ c₀ out at c = Writing p n size marks out at c
+Inv-loop p n size marks out₀ at₀ code₀ out at code = Writing p n size marks out at code
 
 abbrev μ-loop : tie.MeasureT-loop
-μ-loop p n size marks out₀ at₀ c₀ out at c = size - c
+μ-loop p n size marks out₀ at₀ code₀ out at code = size - code
 
 loop-holds : tie.Need-loop-holds Inv-loop μ-loop
 loop-holds c = search write-starts
@@ -22,13 +22,13 @@ element-copy-out-if1 : tie.Need-element-copy-out-if1 Inv-loop μ-loop
 element-copy-out-if1 c = search needs
 
 add-next : tie.Need-add-next Inv-loop μ-loop
-add-next c = let ends = next-ends _ _ _ _ _ _ _ (c .before .before .before .loop .inv) (c .before .before .loop-test .taken) (c .if1 .taken) in search needs
+add-next c = search needs
 
 cast-write-digits : tie.Need-cast-write-digits Inv-loop μ-loop
 cast-write-digits c = search needs
 
 mul-write-digits : tie.Need-mul-write-digits Inv-loop μ-loop
-mul-write-digits c = let ends = next-ends _ _ _ _ _ _ _ (c .before .before .before .loop .inv) (c .before .before .loop-test .taken) (c .if1 .taken) in search needs
+mul-write-digits c = search needs
 
 sub-write-digits : tie.Need-sub-write-digits Inv-loop μ-loop
 sub-write-digits c = search needs
@@ -42,8 +42,8 @@ part-write-digits-end c = search (next-ends, needs)
 write-digits-requires : tie.Need-write-digits-requires Inv-loop μ-loop
 write-digits-requires c κs = search needs
 
-add-c : tie.Need-add-c Inv-loop μ-loop
-add-c c = search needs
+add-code : tie.Need-add-code Inv-loop μ-loop
+add-code c = search needs
 
 loop-less : tie.Need-loop-less Inv-loop μ-loop
 loop-less c = search needs
@@ -73,7 +73,7 @@ write-unmarked-spec =
     part-write-digits-start
     part-write-digits-end
     write-digits-requires
-    add-c
+    add-code
     loop-less
     loop-again
     same-length

@@ -1,7 +1,6 @@
 -- The three tests decide, one after the other.
 use borrow.Author.Needs.{needs}
-use native.Mathlib.Omega.{arith}
-use Rattle.catalogue.proofs.Sizes.{no-prime, prime-low, prime-high, no-degree, size-accepted, size-given, too-many}
+use Rattle.catalogue.proofs.number.Laws.{no-prime, prime-low, prime-high, no-degree, size-accepted, too-many}
 use Rattle.catalogue.proofs.number.count_number.Statement.{statement}
 use Rattle.catalogue.proofs.number.count_number.Tie as tie
 
@@ -9,22 +8,22 @@ is-prime-requires : tie.Need-is-prime-requires
 is-prime-requires c κs = search needs
 
 returns : tie.Need-returns
-returns c = (search no-prime, λ z. absurd (omega arith))
+returns c = search no-prime
 
 is-degree-requires : tie.Need-is-degree-requires
 is-degree-requires c κs = search needs
 
 returns-2 : tie.Need-returns-2
-returns-2 c = (search no-degree, λ z. absurd (omega arith))
+returns-2 c = search no-degree
 
 fits-requires : tie.Need-fits-requires
 fits-requires c κs = (search prime-low, search prime-high)
 
 returns-3 : tie.Need-returns-3
-returns-3 c = (search size-accepted, λ z. search size-given)
+returns-3 c = search size-accepted
 
 returns-4 : tie.Need-returns-4
-returns-4 c = (search too-many, λ z. absurd (omega arith))
+returns-4 c = search too-many
 
 pub count-number-spec : {M : Type 1} → statement M
 count-number-spec =

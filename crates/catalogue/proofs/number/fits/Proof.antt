@@ -1,7 +1,7 @@
 -- Before a turn at k the size is p^k, at most 65,536.
 use borrow.Author.Needs.{needs}
 use Prim.Native.Nat.{_-_}
-use Rattle.catalogue.proofs.Sizes.{Power, power-starts, power-fits, power-turn, power-large, power-done}
+use Rattle.catalogue.proofs.number.Laws.{Power, power-starts, power-fits, power-turn, power-large, power-done}
 use Rattle.catalogue.proofs.number.fits.Statement.{statement}
 use Rattle.catalogue.proofs.number.fits.Tie as tie
 

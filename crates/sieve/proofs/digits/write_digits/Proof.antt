@@ -18,8 +18,8 @@ abbrev μ-loop : tie.MeasureT-loop
 loop-holds : tie.Need-loop-holds Inv-loop μ-loop
 loop-holds c = (search needs, search needs, search rest-all, search painted-none)
 
-rem-out : tie.Need-rem-out Inv-loop μ-loop
-rem-out c = search needs
+lowest-requires : tie.Need-lowest-requires Inv-loop μ-loop
+lowest-requires c κs = search needs
 
 mul-out : tie.Need-mul-out Inv-loop μ-loop
 mul-out c = search needs
@@ -27,8 +27,8 @@ mul-out c = search needs
 slice-write-out : tie.Need-slice-write-out Inv-loop μ-loop
 slice-write-out c = search needs
 
-div-rest : tie.Need-div-rest Inv-loop μ-loop
-div-rest c = search needs
+others-requires : tie.Need-others-requires Inv-loop μ-loop
+others-requires c κs = search needs
 
 add-i : tie.Need-add-i Inv-loop μ-loop
 add-i c = search needs
@@ -52,10 +52,10 @@ write-digits-spec =
     Inv-loop
     μ-loop
     loop-holds
-    rem-out
+    lowest-requires
     mul-out
     slice-write-out
-    div-rest
+    others-requires
     add-i
     loop-less
     loop-again

@@ -8,7 +8,7 @@ use Rattle.array.specs.Array.{padded, Holds}
 use Rattle.matrix.specs.Matrix.{multiple}
 use Rattle.sieve.specs.Contracts.{Plane}
 use Rattle.sieve.proofs.digits.Turns.{power-none}
-use Rattle.sieve.proofs.plane.Planes.{shifted-holds, shifted-first, shifted-turn, shifted-end, plane-below, plane-first, plane-turn, plane-room, plane-power, plane-done}
+use Rattle.sieve.proofs.plane.Planes.{shifted-holds, shifted-first, shifted-turn, shifted-end, plane-below, plane-first, plane-turn, plane-some, plane-room, plane-power, plane-done}
 use Rattle.sieve.proofs.plane.plane.Statement.{statement}
 use Rattle.sieve.proofs.plane.plane.Tie as tie
 
@@ -32,7 +32,7 @@ word-requires : tie.Need-word-requires Inv-loop μ-loop
 word-requires c κs = search needs
 
 extend-requires : tie.Need-extend-requires Inv-loop μ-loop
-extend-requires c κs = ((search needs, search needs, search needs, search plane-room), search plane-below)
+extend-requires c κs = ((search needs, search needs, search needs, search plane-some, search plane-room), search plane-below)
 
 times-x-requires : tie.Need-times-x-requires Inv-loop μ-loop
 times-x-requires c κs = search needs

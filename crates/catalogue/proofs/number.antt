@@ -1,0 +1,2 @@
+-- The laws on which the proofs of the refusals by p and n rest.
+mod Laws

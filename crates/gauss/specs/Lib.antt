@@ -1,0 +1,2 @@
+-- Gauss's formula for the number of models.
+pub mod Gauss
