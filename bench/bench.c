@@ -1,11 +1,13 @@
 /* Compares the answers of our library with those of PARI, FLINT, NTL and plain C on the inputs of every row, and then, unless called with
  * --check, times the rows and prints the tables. Moduli and residues are a few kilobytes for all jobs of a row; a table of 16,384 words is
- * 64 KiB in and 64 KiB out, and was read and written in the job before. */
+ * 64 KiB in and 64 KiB out, and was read and written in the job before, and so was a catalogue, which is up to 256 KiB. */
 #include "rows.h"
 #include <stdio.h>
 #include <string.h>
 
-const peer *const peers[PEERS] = {&ours, &session, &pari, &flint, &flint_columns, &ntl, &plain, &plain_card, &plain_differences, &copy};
+const peer *const peers[PEERS] = {
+    &ours, &session, &pari, &flint, &flint_columns, &ntl, &plain, &plain_card, &plain_differences, &plain_catalogue, &copy,
+};
 
 int does(const peer *who, int what, uint32_t n) {
     const work *w = &who->works[what];
@@ -53,6 +55,10 @@ static const row rows[] = {
     {"IRREDUCIBLE", IRREDUCIBLE, 7, 3},
     {"IRREDUCIBLE", IRREDUCIBLE, 251, 10},
     {"IRREDUCIBLE", IRREDUCIBLE, 65521, 16},
+    {"CATALOGUE", CATALOGUE, 2, 16},
+    {"CATALOGUE", CATALOGUE, 3, 10},
+    {"CATALOGUE", CATALOGUE, 251, 2},
+    {"CATALOGUE", CATALOGUE, 65521, 1},
     {"CONVERT", CONVERT, 65521, 2},
     {"CONVERT", CONVERT, 65521, 4},
     {"CONVERT", CONVERT, 65521, 8},

@@ -8,8 +8,8 @@
 #include <string.h>
 
 static const char *const names[WORKS] = {
-    "FIND",    "CHECK",   "IRREDUCIBLE", "MAPS",       "MATRICES",    "CONVERT",      "BY MATRIX", "DIFFERENCES",
-    "RESTORE", "product", "power",       "substitute", "read a card", "write a card", "power",     "power",
+    "FIND",    "CHECK",   "IRREDUCIBLE", "CATALOGUE",  "MAPS",        "MATRICES",     "CONVERT", "BY MATRIX", "DIFFERENCES",
+    "RESTORE", "product", "power",       "substitute", "read a card", "write a card", "power",   "power",
 };
 
 static void fail(const inputs *in, int what, size_t k, const char *why, ...) {
@@ -99,7 +99,7 @@ static void compare_moduli(const inputs *in) {
 }
 
 static void compare_words(const inputs *in, int what) {
-    static uint32_t own[LARGEST_TABLE], other[LARGEST_TABLE];
+    static uint32_t own[LARGEST_CATALOGUE], other[LARGEST_CATALOGUE];
     ours.prepare(in);
     for (size_t i = 1; i < PEERS; i++)
         if (does(peers[i], what, in->n) && peers[i]->works[what].answer) {
@@ -116,8 +116,11 @@ static void compare_words(const inputs *in, int what) {
 }
 
 void compare(const inputs *in) {
-    if (!in->p) {
-        compare_words(in, DIFFERENCES), compare_words(in, RESTORE);
+    if (!in->models) {
+        if (in->p)
+            compare_words(in, CATALOGUE);
+        else
+            compare_words(in, DIFFERENCES), compare_words(in, RESTORE);
         return;
     }
     compare_found(in);

@@ -61,13 +61,14 @@ static void choose_models(inputs *in) {
             in->jobs++;
         }
     }
+    in->models = in->jobs;
 }
 
 void choose(const row *which, inputs *in) {
     memset(in, 0, sizeof *in);
     in->p = which->p, in->n = which->n, in->words = which->single ? in->n : LARGEST_TABLE / in->n * in->n;
     state = 88172645463325252ull + in->p * 32 + in->n;
-    if (in->p)
+    if (in->p && which->work != CATALOGUE)
         choose_models(in);
     else
         in->jobs = 1;
@@ -98,7 +99,7 @@ static void random_product(uint32_t p, uint32_t n, uint32_t degree, int irreduci
  * S = R = -X, so that the four congruences hold and only the moduli are to be refused. */
 void choose_reducible(const inputs *in, inputs *out) {
     memset(out, 0, sizeof *out);
-    out->p = in->p, out->n = in->n, out->words = in->n, out->jobs = in->jobs;
+    out->p = in->p, out->n = in->n, out->words = in->n, out->jobs = out->models = in->jobs;
     for (size_t k = 0; k < in->jobs; k++) {
         job *j = &out->job[k];
         random_product(in->p, in->n, 1 + (uint32_t)k / 2 % (in->n - 1), k % 2 == 0, j->t1);

@@ -1,5 +1,5 @@
-/* Our calls, each as a user makes it: a session holds the pair that converts, and a matrix was built before a table is converted by it; all else is
- * passed with each call and tested there. */
+/* Our calls, each as a user makes it: a session holds the pair that converts, a matrix was built before a table is converted by it, and a catalogue was
+ * counted before it is listed; all else is passed with each call and tested there. */
 #include "peers.h"
 #include "yokebean.h"
 #include <string.h>
@@ -9,12 +9,13 @@ static uint32_t p, n, number;
 static yokebean_session paired[MOST_JOBS];
 static uint32_t forward[MOST_JOBS][LARGEST_MATRIX], back[LARGEST_MATRIX];
 static yokebean_card card;
-static uint32_t value[2 * LARGEST_DEGREE], list[2 * LARGEST_MATRIX], image[LARGEST_TABLE], words[CARD_WORDS];
+static uint32_t value[2 * LARGEST_DEGREE], list[2 * LARGEST_MATRIX], image[LARGEST_TABLE], words[CARD_WORDS], moduli[LARGEST_CATALOGUE];
+static size_t moduli_words;
 static uint8_t bytes[LARGEST_CARD];
 
 static void prepare(const inputs *given) {
-    in = given, p = in->p, n = in->n;
-    for (size_t k = 0; p && k < in->jobs; k++) {
+    in = given, p = in->p, n = in->n, moduli_words = (size_t)n * yokebean_catalogue_count(p, n).count;
+    for (size_t k = 0; k < in->models; k++) {
         const job *j = &in->job[k];
         yokebean_step step = yokebean_session_load(yokebean_session_new(), p, n, j->t1, n, j->t2, n);
         paired[k] = yokebean_session_propose(step.session, j->s, n, j->r, n).session;
@@ -33,6 +34,8 @@ static void check(size_t k) {
 }
 
 static void irreducible(size_t k) { number = yokebean_irreducible(p, n, in->job[k].t1, n); }
+
+static void catalogue(size_t k) { number = yokebean_catalogue_list(p, n, moduli, moduli_words); }
 
 static void maps(size_t k) {
     const job *j = &in->job[k];
@@ -89,6 +92,7 @@ static size_t accepted(uint32_t *out) {
 
 static size_t pair(uint32_t *out) { return given(value, 2 * n, out); }
 static size_t residue(uint32_t *out) { return given(value, n, out); }
+static size_t listed(uint32_t *out) { return given(moduli, moduli_words, out); }
 static size_t residues(uint32_t *out) { return given(list, n * n, out); }
 static size_t both(uint32_t *out) { return given(list, 2 * n * n, out); }
 static size_t table(uint32_t *out) { return given(image, in->words, out); }
@@ -105,10 +109,11 @@ static size_t card_written(uint32_t *out) {
 }
 
 const peer ours = {"ours", prepare, {
-    [FIND] = {find, pair}, [CHECK] = {check, accepted}, [IRREDUCIBLE] = {irreducible, accepted}, [MAPS] = {maps, residues},
-    [MATRICES] = {matrices, both}, [CONVERT] = {convert, table}, [BY_MATRIX] = {by_matrix, table}, [DIFFERENCES] = {differences, table},
-    [RESTORE] = {restore, table}, [PRODUCT] = {product, residue}, [POWER] = {power, residue}, [SUBSTITUTE] = {substitute, residue},
-    [READ] = {read_card, card_read}, [WRITE] = {write_card, card_written}, [LONG] = {long_power, residue}, [SHORT] = {short_power, residue},
+    [FIND] = {find, pair}, [CHECK] = {check, accepted}, [IRREDUCIBLE] = {irreducible, accepted}, [CATALOGUE] = {catalogue, listed},
+    [MAPS] = {maps, residues}, [MATRICES] = {matrices, both}, [CONVERT] = {convert, table}, [BY_MATRIX] = {by_matrix, table},
+    [DIFFERENCES] = {differences, table}, [RESTORE] = {restore, table}, [PRODUCT] = {product, residue}, [POWER] = {power, residue},
+    [SUBSTITUTE] = {substitute, residue}, [READ] = {read_card, card_read}, [WRITE] = {write_card, card_written}, [LONG] = {long_power, residue},
+    [SHORT] = {short_power, residue},
 }};
 
 const peer session = {"session", prepare, {[BY_MATRIX] = {convert, table}}};

@@ -1,14 +1,16 @@
 /* FLINT: for each work the call that is fastest at its size, which from degree 8 is the one with a prepared inverse; a table is converted by
  * nmod_mat_mul, the table times the matrix of the powers of S, or that matrix, transposed, times the table with a residue in each column; the powers
  * of S and R go into the rows of two matrices, with a prepared inverse; a modulus is tested by FLINT's default, the degrees of its factors, and at the
- * smallest sizes by Rabin's test; the maps are the roots of T1 in the field of T2, by fq_nmod_poly_roots, which takes 0.5 ms in degree 4 and
- * 70 ms in degree 16. */
+ * smallest sizes by Rabin's test; for the catalogue every monic polynomial is tested so, since to split the product of the irreducible ones by
+ * nmod_poly_factor_equal_deg takes more than ten times as long; the maps are the roots of T1 in the field of T2, by fq_nmod_poly_roots, which takes
+ * 0.5 ms in degree 4 and 70 ms in degree 16. */
 #include "peers.h"
 #include <flint/fq_nmod_poly.h>
 #include <flint/fq_nmod_poly_factor.h>
 #include <flint/nmod_mat.h>
 #include <flint/nmod_poly.h>
 #include <flint/nmod_poly_factor.h>
+#include <string.h>
 
 enum { PREPARED_FROM = 8 /* n */, RABIN_BELOW = 22 /* p·n */, ROOTS_UP_TO = 4 /* n */ };
 
@@ -22,11 +24,11 @@ typedef struct {
 
 static forms form[MOST_JOBS];
 static nmod_mat_t table, image, columns, columns_image, forward, back;
-static nmod_poly_t value;
+static nmod_poly_t value, tested;
 static const forms *solved;
-static int right;
-static uint32_t p, n;
-static size_t jobs;
+static int right, prepared;
+static uint32_t p, n, moduli[LARGEST_CATALOGUE];
+static size_t models, moduli_words;
 
 static void set(nmod_poly_t f, const uint32_t *words, int monic) {
     nmod_poly_init(f, p);
@@ -67,23 +69,23 @@ static void set_field(forms *f) {
 }
 
 static void clear(void) {
-    for (forms *f = form; f < form + jobs; f++) {
+    for (forms *f = form; f < form + models; f++) {
         nmod_poly_clear(f->t1), nmod_poly_clear(f->t2), nmod_poly_clear(f->inverse1), nmod_poly_clear(f->inverse2);
         nmod_poly_clear(f->s), nmod_poly_clear(f->r), nmod_poly_clear(f->u), nmod_poly_clear(f->v);
         nmod_poly_clear(f->x1), nmod_poly_clear(f->x2), nmod_mat_clear(f->powers), nmod_mat_clear(f->transposed);
         fq_nmod_poly_clear(f->t1_over_field, f->field), fq_nmod_poly_factor_clear(f->roots, f->field), fq_nmod_ctx_clear(f->field);
     }
-    if (jobs) {
+    if (prepared) {
         nmod_mat_clear(table), nmod_mat_clear(image), nmod_mat_clear(columns), nmod_mat_clear(columns_image);
-        nmod_mat_clear(forward), nmod_mat_clear(back), nmod_poly_clear(value);
+        nmod_mat_clear(forward), nmod_mat_clear(back), nmod_poly_clear(value), nmod_poly_clear(tested);
     }
 }
 
 static void prepare(const inputs *in) {
     clear();
-    p = in->p, n = in->n, jobs = in->jobs;
-    nmod_poly_init(value, p);
-    for (size_t k = 0; k < jobs; k++) {
+    p = in->p, n = in->n, models = in->models, prepared = 1;
+    nmod_poly_init(value, p), nmod_poly_init(tested, p);
+    for (size_t k = 0; k < models; k++) {
         const job *j = &in->job[k];
         forms *f = &form[k];
         set(f->t1, j->t1, 1), set(f->t2, j->t2, 1);
@@ -114,6 +116,27 @@ static void evaluate(const nmod_poly_t f, const nmod_poly_t s, const nmod_poly_t
 static int test(const nmod_poly_t t) { return p * n < RABIN_BELOW ? nmod_poly_is_irreducible_rabin(t) : nmod_poly_is_irreducible(t); }
 
 static void irreducible(size_t k) { right = test(form[k].t1); }
+
+/* The next list of n words in ascending order, or 0 after the last. */
+static int advance(nmod_poly_t f) {
+    for (uint32_t i = 0; i < n; i++) {
+        if (++f->coeffs[i] < p)
+            return 1;
+        f->coeffs[i] = 0;
+    }
+    return 0;
+}
+
+static void catalogue(size_t k) {
+    nmod_poly_zero(tested);
+    nmod_poly_set_coeff_ui(tested, n, 1);
+    moduli_words = 0;
+    do {
+        if (test(tested))
+            for (uint32_t i = 0; i < n; i++)
+                moduli[moduli_words++] = (uint32_t)tested->coeffs[i];
+    } while (advance(tested));
+}
 
 static void check(size_t k) {
     const forms *f = &form[k];
@@ -172,6 +195,11 @@ static size_t residue(uint32_t *out) {
     return n;
 }
 
+static size_t listed(uint32_t *out) {
+    memcpy(out, moduli, moduli_words * sizeof *out);
+    return moduli_words;
+}
+
 /* A root is given as a factor, X less the root. */
 static size_t residues(uint32_t *out) {
     const fq_nmod_poly_factor_struct *all = solved->roots;
@@ -214,9 +242,9 @@ static size_t accepted(uint32_t *out) {
 }
 
 const peer flint = {"FLINT", prepare, {
-    [CHECK] = {check, accepted}, [IRREDUCIBLE] = {irreducible, accepted}, [MAPS] = {maps, residues, ROOTS_UP_TO},
-    [MATRICES] = {matrices, both}, [CONVERT] = {convert, converted}, [BY_MATRIX] = {convert, converted}, [PRODUCT] = {product, residue},
-    [POWER] = {power, residue}, [SUBSTITUTE] = {substitute, residue},
+    [CHECK] = {check, accepted}, [IRREDUCIBLE] = {irreducible, accepted}, [CATALOGUE] = {catalogue, listed},
+    [MAPS] = {maps, residues, ROOTS_UP_TO}, [MATRICES] = {matrices, both}, [CONVERT] = {convert, converted}, [BY_MATRIX] = {convert, converted},
+    [PRODUCT] = {product, residue}, [POWER] = {power, residue}, [SUBSTITUTE] = {substitute, residue},
 }};
 
 const peer flint_columns = {"FLINT columns", prepare, {[BY_MATRIX] = {convert_columns, converted_columns}}};

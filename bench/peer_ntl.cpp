@@ -1,11 +1,15 @@
 // NTL: CompMod substitutes modulo a prepared modulus; a table is converted by mul, the table times the matrix of the powers of S; IterIrredTest
-// is the faster of the two tests that do not err; the maps are the roots of T1 in the field of T2, by FindRoots, which takes 0.5 ms in degree 4
-// and 190 ms in degree 16.
+// is the faster of the two tests that do not err; for the catalogue it tests every monic polynomial, for p = 2 as a GF2X, whose coefficients are bits,
+// which takes a third of the time; the maps are the roots of T1 in the field of T2, by FindRoots, which takes 0.5 ms in degree 4 and 190 ms in degree
+// 16.
 #include "peers.h"
+#include <NTL/GF2XFactoring.h>
 #include <NTL/lzz_pEXFactoring.h>
 #include <NTL/lzz_pX.h>
 #include <NTL/lzz_pXFactoring.h>
 #include <NTL/mat_lzz_p.h>
+#include <algorithm>
+#include <vector>
 
 using namespace NTL;
 
@@ -27,8 +31,9 @@ struct Prepared {
     mat_zz_p table, image, forward, back;
     zz_pX value;
     vec_zz_pE roots;
+    std::vector<uint32_t> moduli;
     bool right;
-    long n;
+    long p, n;
 };
 
 Prepared *prepared;
@@ -59,10 +64,11 @@ void prepare(const inputs *in) {
     delete prepared;
     zz_p::init(in->p);
     prepared = new Prepared;
+    prepared->p = in->p, prepared->moduli.reserve(LARGEST_CATALOGUE);
     long n = prepared->n = in->n, groups = in->words / in->n;
     zz_pX x;
     SetX(x);
-    for (size_t k = 0; k < in->jobs; k++) {
+    for (size_t k = 0; k < in->models; k++) {
         const job &j = in->job[k];
         Forms &f = prepared->form[k];
         f.t1 = polynomial(j.t1, n, true), f.t2 = polynomial(j.t2, n, true);
@@ -91,6 +97,44 @@ bool is_root(const zz_pX &t, const zz_pX &s, const zz_pXModulus &modulus) {
 }
 
 void irreducible(size_t k) { prepared->right = IterIrredTest(prepared->form[k].t1); }
+
+// The next list of n words in ascending order, or false after the last.
+bool advance(zz_pX &f, long n) {
+    for (long i = 0; i < n; i++) {
+        f[i] += 1;
+        if (!IsZero(f[i]))
+            return true;
+    }
+    return false;
+}
+
+void list_words(long n) {
+    zz_pX f(INIT_MONO, n);
+    do
+        if (IterIrredTest(f))
+            for (long i = 0; i < n; i++)
+                prepared->moduli.push_back(uint32_t(rep(f[i])));
+    while (advance(f, n));
+}
+
+// For p = 2.
+void list_bits(long n) {
+    GF2X f(INIT_MONO, n);
+    for (unsigned long code = 1ul << n; code < 2ul << n; code++) {
+        f.xrep[0] = code;
+        if (IterIrredTest(f))
+            for (long i = 0; i < n; i++)
+                prepared->moduli.push_back(uint32_t(code >> i & 1));
+    }
+}
+
+void catalogue(size_t k) {
+    prepared->moduli.clear();
+    if (prepared->p == 2)
+        list_bits(prepared->n);
+    else
+        list_words(prepared->n);
+}
 
 void check(size_t k) {
     const Forms &f = prepared->form[k];
@@ -135,6 +179,11 @@ size_t residue(uint32_t *out) {
     return size_t(prepared->n);
 }
 
+size_t listed(uint32_t *out) {
+    std::copy(prepared->moduli.begin(), prepared->moduli.end(), out);
+    return prepared->moduli.size();
+}
+
 size_t residues(uint32_t *out) {
     long n = prepared->n, count = prepared->roots.length();
     for (long k = 0; k < count; k++)
@@ -171,8 +220,8 @@ const work none = {nullptr, nullptr};
 }
 
 extern "C" const peer ntl = {"NTL", prepare, {
-    /* FIND */ none, /* CHECK */ {check, accepted}, /* IRREDUCIBLE */ {irreducible, accepted}, /* MAPS */ {maps, residues, ROOTS_UP_TO},
-    /* MATRICES */ {matrices, both}, /* CONVERT */ {convert, converted}, /* BY_MATRIX */ {convert, converted}, /* DIFFERENCES */ none,
-    /* RESTORE */ none, /* PRODUCT */ {product, residue}, /* POWER */ {power, residue}, /* SUBSTITUTE */ {substitute, residue}, /* READ */ none,
-    /* WRITE */ none, /* LONG */ none, /* SHORT */ none,
+    /* FIND */ none, /* CHECK */ {check, accepted}, /* IRREDUCIBLE */ {irreducible, accepted}, /* CATALOGUE */ {catalogue, listed},
+    /* MAPS */ {maps, residues, ROOTS_UP_TO}, /* MATRICES */ {matrices, both}, /* CONVERT */ {convert, converted},
+    /* BY_MATRIX */ {convert, converted}, /* DIFFERENCES */ none, /* RESTORE */ none, /* PRODUCT */ {product, residue}, /* POWER */ {power, residue},
+    /* SUBSTITUTE */ {substitute, residue}, /* READ */ none, /* WRITE */ none, /* LONG */ none, /* SHORT */ none,
 }};

@@ -1,8 +1,10 @@
 /* PARI: Flx_ffisom finds an isomorphism, Flxq_ffisom_inv its inverse; Flx_Flxq_eval substitutes; Flx_is_irred tests a modulus as
  * polisirreducible does, by the degrees of its factors, and Flx_rootsff finds the roots of T1 in the field of T2 as polrootsmod does, both without
- * conversions; Flxq_matrix_pow gives the matrix of the powers. Its prepared form of a modulus of these degrees is the modulus itself. */
+ * conversions; Flxq_matrix_pow gives the matrix of the powers; for the catalogue every monic polynomial is tested, for p = 2 too by Flx_is_irred, which
+ * takes as long as F2x_is_irred. Its prepared form of a modulus of these degrees is the modulus itself. */
 #include "peers.h"
 #include <pari/pari.h>
+#include <string.h>
 
 static ulong p;
 static uint32_t n;
@@ -12,6 +14,8 @@ static pari_sp prepared;
 /* The last answers; they stay on PARI's stack until the next work begins. */
 static GEN value, back;
 static int right;
+static uint32_t moduli[LARGEST_CATALOGUE];
+static size_t moduli_words;
 
 static void start(void) {
     static int started;
@@ -41,7 +45,7 @@ static void prepare(const inputs *in) {
     start();
     set_avma(pari_mainstack->top);
     p = in->p, n = in->n, x = polx_Flx(0);
-    for (size_t k = 0; k < in->jobs; k++) {
+    for (size_t k = 0; k < in->models; k++) {
         const job *j = &in->job[k];
         t1[k] = polynomial(j->t1, n, 1), t2[k] = polynomial(j->t2, n, 1);
         s[k] = polynomial(j->s, n, 0), r[k] = polynomial(j->r, n, 0), u[k] = polynomial(j->u, n, 0), v[k] = polynomial(j->v, n, 0);
@@ -58,6 +62,30 @@ static void find(size_t k) {
 static void irreducible(size_t k) {
     set_avma(prepared);
     right = Flx_is_irred(t1[k], p);
+}
+
+/* The next list of n words in ascending order, or 0 after the last. */
+static int advance(GEN f) {
+    for (uint32_t i = 0; i < n; i++) {
+        if ((ulong)++f[2 + i] < p)
+            return 1;
+        f[2 + i] = 0;
+    }
+    return 0;
+}
+
+static void catalogue(size_t k) {
+    static const uint32_t first[LARGEST_DEGREE];
+    set_avma(prepared);
+    GEN f = polynomial(first, n, 1);
+    pari_sp before = avma;
+    moduli_words = 0;
+    do {
+        if (Flx_is_irred(f, p))
+            for (uint32_t i = 0; i < n; i++)
+                moduli[moduli_words++] = (uint32_t)f[2 + i];
+        set_avma(before);
+    } while (advance(f));
 }
 
 static void check(size_t k) {
@@ -104,6 +132,11 @@ static size_t residue(uint32_t *out) {
     return n;
 }
 
+static size_t listed(uint32_t *out) {
+    memcpy(out, moduli, moduli_words * sizeof *out);
+    return moduli_words;
+}
+
 static size_t pair(uint32_t *out) {
     list(value, out), list(back, out + n);
     return 2 * n;
@@ -131,6 +164,7 @@ static size_t accepted(uint32_t *out) {
 }
 
 const peer pari = {"PARI", prepare, {
-    [FIND] = {find, pair}, [CHECK] = {check, accepted}, [IRREDUCIBLE] = {irreducible, accepted}, [MAPS] = {maps, residues},
-    [MATRICES] = {matrices, both}, [PRODUCT] = {product, residue}, [POWER] = {power, residue}, [SUBSTITUTE] = {substitute, residue},
+    [FIND] = {find, pair}, [CHECK] = {check, accepted}, [IRREDUCIBLE] = {irreducible, accepted}, [CATALOGUE] = {catalogue, listed},
+    [MAPS] = {maps, residues}, [MATRICES] = {matrices, both}, [PRODUCT] = {product, residue}, [POWER] = {power, residue},
+    [SUBSTITUTE] = {substitute, residue},
 }};

@@ -11,6 +11,7 @@ extern "C" {
 #endif
 
 enum { MOST_JOBS = 16, LARGEST_DEGREE = 16, LARGEST_MATRIX = 16 * 16, LARGEST_TABLE = 16384, LARGEST_CARD = 166, CARD_WORDS = 64 };
+enum { LARGEST_CATALOGUE = 65536 }; /* words: there are at most p^n/n irreducible polynomials */
 
 /* What a residue is raised to: the first binary digits of the square root of 2 after its point, about half of them 1. */
 #define EXPONENT 0x6a09e667f3bcc909ull
@@ -22,11 +23,11 @@ typedef struct {
     uint8_t card[LARGEST_CARD];
 } job;
 
-/* The inputs of a row: jobs with one p and n, and a table that all of them convert. Where p is 0, the work has no p and the one job no models, and the
- * table's words may have any values. */
+/* The inputs of a row: jobs with one p and n, and a table that all of them convert. Either all jobs have models, and `models` is their number, or it is
+ * 0 and there is one job: for the catalogue, and where the work has no p, which is then 0, and the table's words may have any values. */
 typedef struct {
     uint32_t p, n;
-    size_t jobs, words, card_length;
+    size_t jobs, models, words, card_length;
     job job[MOST_JOBS];
     uint32_t table[LARGEST_TABLE];
 } inputs;
@@ -35,6 +36,7 @@ typedef struct {
  *   FIND         a pair: S, then R
  *   CHECK        whether T1 and T2 are irreducible and the four congruences hold: 1 or 0
  *   IRREDUCIBLE  whether T1 is irreducible: 1 or 0
+ *   CATALOGUE    all irreducible monic polynomials of degree n, each as its n lower words, in ascending order
  *   MAPS         the n residues S' modulo T2 with T1(S') = 0, in ascending order
  *   MATRICES     of an accepted pair, the matrix of the powers of S modulo T2, then that of the powers of R modulo T1, row after row
  *   CONVERT      the table's image
@@ -48,7 +50,10 @@ typedef struct {
  *   WRITE        the bytes of a card
  *   LONG         u^(2^60) modulo T2
  *   SHORT        u^(2^12) modulo T2, which takes BETWEEN products fewer */
-enum { FIND, CHECK, IRREDUCIBLE, MAPS, MATRICES, CONVERT, BY_MATRIX, DIFFERENCES, RESTORE, PRODUCT, POWER, SUBSTITUTE, READ, WRITE, LONG, SHORT, WORKS };
+enum {
+    FIND, CHECK, IRREDUCIBLE, CATALOGUE, MAPS, MATRICES, CONVERT, BY_MATRIX, DIFFERENCES, RESTORE, PRODUCT, POWER, SUBSTITUTE, READ, WRITE, LONG,
+    SHORT, WORKS
+};
 enum { BETWEEN = 60 - 12 };
 
 /* `run` does the work of the k-th job and keeps the answer in the peer's own form, where the compiler cannot tell that nobody reads it;
@@ -69,7 +74,7 @@ typedef struct {
 
 /* `session` is our session's conversion, and `flint_columns` FLINT with a residue in each column of its table, both beside a conversion by matrix;
  * `copy` copies the table by memcpy, beside differences. */
-extern const peer ours, session, pari, flint, flint_columns, ntl, plain, plain_card, plain_differences, copy;
+extern const peer ours, session, pari, flint, flint_columns, ntl, plain, plain_card, plain_differences, plain_catalogue, copy;
 
 /* PARI's test of X^n + t. */
 int is_irreducible(uint32_t p, uint32_t n, const uint32_t *t);

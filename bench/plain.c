@@ -55,7 +55,7 @@ static void prepare(const inputs *in) {
     p = in->p, n = in->n, words = in->words;
     memcpy(table, in->table, sizeof table);
     memset(form, 0, sizeof form);
-    for (size_t k = 0; k < in->jobs; k++) {
+    for (size_t k = 0; k < in->models; k++) {
         const job *j = &in->job[k];
         forms *f = &form[k];
         widen(j->t1, f->t1), widen(j->t2, f->t2), widen(j->s, f->s), widen(j->r, f->r), widen(j->u, f->u), widen(j->v, f->v);

@@ -19,7 +19,7 @@ typedef struct {
 } times;
 
 /* Our library comes first. */
-enum { PEERS = 10 };
+enum { PEERS = 11 };
 extern const peer *const peers[PEERS];
 
 /* Whether a peer does a work in degree n. */

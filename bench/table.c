@@ -3,16 +3,23 @@
 #include <stdio.h>
 #include <string.h>
 
-enum { LABEL = 31, OWN = 15, WIDTH = 24 };
+enum { LABEL = 31, OWN = 15, WIDTH = 27 };
+
+static double rounded(double time, double unit) { return (double)(long)(time / unit + 0.5) * unit; }
 
 /* Three digits that count. */
 static int show(char *out, size_t length, const times *t) {
     int digits = t->median < 0.1 ? 4 : t->median < 1 ? 3 : t->median < 10 ? 2 : t->median < 100 ? 1 : 0;
-    return snprintf(out, length, "%.*f (%.*f)", digits, t->median, digits, t->minimum);
+    if (digits)
+        return snprintf(out, length, "%.*f (%.*f)", digits, t->median, digits, t->minimum);
+    double unit = 1;
+    while (t->median / unit >= 1000)
+        unit *= 10;
+    return snprintf(out, length, "%.0f (%.0f)", rounded(t->median, unit), rounded(t->minimum, unit));
 }
 
 static void show_ratio(char *out, size_t length, double ratio) {
-    snprintf(out, length, " **%.*f**", ratio < 0.01 ? 4 : ratio < 0.1 ? 3 : ratio < 10 ? 2 : 1, ratio);
+    snprintf(out, length, " **%.*f**", ratio < 0.001 ? 5 : ratio < 0.01 ? 4 : ratio < 0.1 ? 3 : ratio < 10 ? 2 : 1, ratio);
 }
 
 void print_header(const char *label, const char *const *columns) {

@@ -1,14 +1,16 @@
-/* Times a row: all who do its work take turns, round by round, and each time is the mean over the jobs of the row. Over the rounds the median
- * and the minimum are taken. Our product is timed inside a power: the difference of two medians, or of two minima, of whole powers. */
+/* Times a row: all who do its work take turns, round by round, and each time is the mean over the jobs of the row. Who takes long has a turn in few of
+ * the rounds. Over the rounds the median and the minimum are taken. Our product is timed inside a power: the difference of two medians, or
+ * of two minima, of whole powers. */
 #include "rows.h"
 #include <stdlib.h>
 #include <time.h>
 
-enum { ROUNDS = 301, SHORTEST = 200000 /* nanoseconds */ };
+enum { ROUNDS = 301, SPARSE = 30 /* from one to the next: 11 of the rounds */, SHORTEST = 200000, LONGEST = 20000000 /* nanoseconds */ };
 
 typedef struct {
     void (*run)(size_t k);
     unsigned repeats;
+    size_t step, rounds;
     double sample[ROUNDS];
 } series;
 
@@ -37,14 +39,21 @@ static void take_turns(series *all, size_t count, size_t jobs) {
     for (series *s = all; s < all + count; s++) {
         s->repeats = 1;
         timed(s, jobs);
-        s->repeats = (unsigned)(SHORTEST / (timed(s, jobs) * (double)jobs)) + 1;
+        double turn = timed(s, jobs) * (double)jobs;
+        s->repeats = (unsigned)(SHORTEST / turn) + 1;
+        s->step = turn > LONGEST ? SPARSE : 1, s->rounds = 0;
     }
     for (size_t round = 0; round < ROUNDS; round++)
         for (series *s = all; s < all + count; s++)
-            s->sample[round] = timed(s, jobs);
+            if (round % s->step == 0)
+                s->sample[s->rounds++] = timed(s, jobs);
     for (series *s = all; s < all + count; s++)
-        qsort(s->sample, ROUNDS, sizeof(double), ascending);
+        qsort(s->sample, s->rounds, sizeof(double), ascending);
 }
+
+/* In microseconds. */
+static double median(const series *s) { return s->sample[s->rounds / 2] / 1000; }
+static double minimum(const series *s) { return s->sample[0] / 1000; }
 
 size_t time_row(const row *which, const inputs *in, times *out) {
     static series all[PEERS + 1];
@@ -60,10 +69,10 @@ size_t time_row(const row *which, const inputs *in, times *out) {
     all[count].run = ours.works[SHORT].run;
     take_turns(all, count + (which->inside ? 1 : 0), in->jobs);
     for (size_t i = 0; i < count; i++)
-        out[i].median = all[i].sample[ROUNDS / 2] / 1000, out[i].minimum = all[i].sample[0] / 1000;
+        out[i].median = median(&all[i]), out[i].minimum = minimum(&all[i]);
     if (which->inside) {
-        out[0].median = (out[0].median - all[count].sample[ROUNDS / 2] / 1000) / BETWEEN;
-        out[0].minimum = (out[0].minimum - all[count].sample[0] / 1000) / BETWEEN;
+        out[0].median = (out[0].median - median(&all[count])) / BETWEEN;
+        out[0].minimum = (out[0].minimum - minimum(&all[count])) / BETWEEN;
     }
     return count;
 }

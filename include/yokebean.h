@@ -8,7 +8,7 @@
  * that a session call gives back the session it took:
  *    1  p is below 2, above 1,048,575 or not prime
  *    2  n is not 1 to 16
- *    3  a list of coefficients or a matrix, read or written, or the output list of a card, sheet or report has the wrong length
+ *    3  a list of coefficients or a matrix, read or written, or the output list of a catalogue, card, sheet or report has the wrong length
  *    4  a coefficient or a word of a matrix is p or more
  *    5  n neither divides p - 1 nor is p^k with k >= 1
  *    6  T1, or T where a call has one modulus, has a monic divisor of degree 1 to n - 1
@@ -24,6 +24,7 @@
  *   25  the ledger holds 512 records
  *   26  no table is open            27  a table is open
  *   28  a wide card has a p below 65,536
+ *   29  p^n is above 65,536, and a catalogue is asked for
  * Load, propose and find act on the current session; while a table is open they act on the waiting one, and 21, 23 and 24 are about that.
  *
  * Lists: each pointer must point to as many words as its length says (a list of length 0 may have any pointer that is not null and is
@@ -53,6 +54,23 @@ uint32_t yokebean_power(uint32_t p, uint32_t n, const uint32_t *t, size_t t_len,
 
 /* Whether T is irreducible, that is, has no monic divisor of degree 1 to n - 1; then every residue but 0 has an inverse. 1, 2, 3, 4, 6. */
 uint32_t yokebean_irreducible(uint32_t p, uint32_t n, const uint32_t *t, size_t t_len);
+
+/* The count's answer. */
+typedef struct {
+    uint32_t number, count;
+} yokebean_count;
+
+/* The catalogue of a size: how many monic polynomials of degree n modulo p are irreducible, that is, have no monic divisor of degree 1 to n - 1.
+ * p^n may be up to 65,536. 1, 2, 29. */
+yokebean_count yokebean_catalogue_count(uint32_t p, uint32_t n);
+
+/* Writes all of them into out, each exactly once and as the n words of a modulus, in ascending order, where coefficients are compared from the highest
+ * power down. out has n*count words. For n = 1 they are X, X + 1, ..., X + p - 1, so the words 0 to p - 1. For p = 2, n = 4 there are three:
+ *    1 1 0 0   X^4 + X + 1
+ *    1 0 0 1   X^4 + X^3 + 1
+ *    1 1 1 1   X^4 + X^3 + X^2 + X + 1
+ * No call refuses such a modulus with 6 or 7. 1, 2, 29, 3. */
+uint32_t yokebean_catalogue_list(uint32_t p, uint32_t n, uint32_t *out, size_t out_len);
 
 /* The checker: whether T1 and T2 are irreducible and the four congruences hold; then both models are fields, in which every residue but 0 has an
  * inverse, and u -> u(S) mod T2 and u -> u(R) mod T1 are inverse isomorphisms. 1, 2, 3, 4, 6, 7, 8. */

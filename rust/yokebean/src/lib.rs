@@ -1,6 +1,7 @@
-//! Isomorphisms of finite fields: test a modulus, check a pair, list all maps, find a pair, convert tables through it, whole or in parts, or by the
-//! matrix of a map; and store tables as differences. Each function passes its slices on to the proved call of the same name in include/yokebean.h,
-//! which `rt staticlib capi` builds; none of them panics, and a refused call leaves every slice as it was.
+//! Isomorphisms of finite fields: test a modulus, list all of a size, check a pair, list all maps, find a pair, convert tables through it, whole or in
+//! parts, or by the matrix of a map; and store tables as differences. Each function passes its slices on to the proved call of the same name in
+//! include/yokebean.h, those about all models of a size to the catalogue's, which `rt staticlib capi` builds; none of them panics, and a refused call
+//! leaves every slice as it was.
 //!
 //! A model is a prime p up to 1,048,575, a degree n from 1 to 16 and a monic modulus of degree n; its n lower words are passed, constant first.
 //! A residue is n words below p, in the same order.
@@ -18,10 +19,12 @@
 //! # }
 //! ```
 
+mod catalogue;
 pub mod raw;
 mod refusal;
 mod table;
 
+pub use catalogue::{count_models, list_models, models, Models};
 pub use refusal::Refusal;
 pub use table::OpenTable;
 

@@ -53,6 +53,14 @@ pub struct Step {
     pub session: Session,
 }
 
+/// The count's answer.
+#[repr(C)]
+#[derive(Clone, Copy, Debug, PartialEq, Eq)]
+pub struct Count {
+    pub number: u32,
+    pub count: u32,
+}
+
 /// The reader's answer.
 #[repr(C)]
 #[derive(Clone, Copy, Debug, PartialEq, Eq)]
@@ -69,6 +77,9 @@ extern "C" {
     pub fn yokebean_product(p: u32, n: u32, t: Words, t_len: usize, u: Words, u_len: usize, v: Words, v_len: usize, out: Lent, out_len: usize) -> u32;
     pub fn yokebean_power(p: u32, n: u32, t: Words, t_len: usize, u: Words, u_len: usize, k: u64, out: Lent, out_len: usize) -> u32;
     pub fn yokebean_irreducible(p: u32, n: u32, t: Words, t_len: usize) -> u32;
+
+    pub fn yokebean_catalogue_count(p: u32, n: u32) -> Count;
+    pub fn yokebean_catalogue_list(p: u32, n: u32, out: Lent, out_len: usize) -> u32;
 
     pub fn yokebean_check(p: u32, n: u32, t1: Words, t1_len: usize, t2: Words, t2_len: usize, s: Words, s_len: usize, r: Words, r_len: usize) -> u32;
     pub fn yokebean_maps(p: u32, n: u32, t1: Words, t1_len: usize, t2: Words, t2_len: usize, s: Words, s_len: usize, r: Words, r_len: usize, out: Lent, out_len: usize) -> u32;

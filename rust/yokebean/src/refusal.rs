@@ -58,7 +58,7 @@ macro_rules! refusals {
 refusals! {
     1 NotPrime "p is below 2, above 1,048,575 or not prime"
     2 Degree "n is not 1 to 16"
-    3 Length "a list of coefficients or a matrix, read or written, or the output list of a card, sheet or report has the wrong length"
+    3 Length "a list of coefficients or a matrix, read or written, or the output list of a catalogue, card, sheet or report has the wrong length"
     4 Word "a coefficient or a word of a matrix is p or more"
     5 DegreeDoesNotDivide "n neither divides p − 1 nor is p^k with k ≥ 1"
     6 FirstModulusFactors "T1, or T where a call has one modulus, has a monic divisor of degree 1 to n − 1"
@@ -77,6 +77,7 @@ refusals! {
     26 NoTableOpen "no table is open, and the call is feed or end"
     27 TableOpen "a table is open, and the call is begin, forward or back"
     28 CardTooWide "a wide card has a p below 65,536"
+    29 CatalogueTooLarge "p^n is above 65,536, and a catalogue is asked for"
 }
 
 impl std::error::Error for Refusal {}

@@ -2,6 +2,7 @@
 
 pub mod cards;
 mod case;
+pub mod catalogue;
 pub mod differences;
 pub mod earlier;
 mod known;
@@ -23,12 +24,14 @@ use std::collections::BTreeMap;
 use std::fmt::Debug;
 
 /// The numbers that a call can give. Each must have occurred with it.
-const NUMBERS: [(&str, &[u32]); 36] = [
+const NUMBERS: [(&str, &[u32]); 38] = [
     ("every_p", &[1, 2]),
     ("product", &[0, 1, 2, 3, 4]),
     ("power", &[0, 1, 2, 3, 4]),
     ("substitute", &[0, 1, 2, 3, 4]),
     ("irreducible", &[0, 1, 2, 3, 4, 6]),
+    ("catalogue_count", &[0, 1, 2, 29]),
+    ("catalogue_list", &[0, 1, 2, 29, 3]),
     ("check", &[0, 1, 2, 3, 4, 6, 7, 8]),
     ("maps", &[0, 1, 2, 3, 4, 6, 7, 8]),
     ("matrices", &[0, 1, 2, 3, 4, 6, 7, 8]),

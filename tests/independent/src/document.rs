@@ -2,9 +2,11 @@
 //! methods than the proved code's. Polynomials are multiplied out and divided with remainder; divisors are found by trial division, or by greatest
 //! common divisors where there are too many to try; the finder's values come from sums over conjugates (Lagrange resolvents, Hilbert's Theorem 90
 //! for sums), without solving linear systems; all maps of a pair are found by trying every residue, or are powers of S, sorted; each column of a
-//! matrix is a power by itself; tables are restored from differences by sums that do not wrap; cards are strings of bits.
+//! matrix is a power by itself; tables are restored from differences by sums that do not wrap; the catalogue is counted by Gauss's formula, and each
+//! polynomial is tested by itself; cards are strings of bits.
 
 pub mod card;
+pub mod catalogue;
 pub mod differences;
 pub mod divisor;
 pub mod earlier;

@@ -1,10 +1,10 @@
 //! Examples A to J of document 01, D as request S-6, F as request S-3 and J as request S-9 has it, the report, the sheet and the maps of A, degrees
-//! that are powers of p, a table in parts under A while D waits, the matrices of A and D, a table as differences, and wide
-//! cards, on the independent implementation itself.
+//! that are powers of p, a table in parts under A while D waits, the matrices of A and D, a table as differences, catalogues, and wide cards, on the
+//! independent implementation itself.
 
 use crate::document::eigenvector::zeta_and_a;
 use crate::document::finder::{self, method, Method};
-use crate::document::{self, card, differences, earlier, is_prime, maps, matrix, model::Model, session::Session, sheet, tower};
+use crate::document::{self, card, catalogue, differences, earlier, is_prime, maps, matrix, model::Model, session::Session, sheet, tower};
 
 /// A modulus for p = 2, a and α of each round, and P.
 type Tower = (&'static [u32], &'static [[&'static [u32]; 2]], &'static [u32]);
@@ -83,6 +83,17 @@ fn differences_hold() {
     }
 }
 
+/// The models of three sizes, how many there are of two that are as large as may be, and the numbers in their order.
+fn catalogues_hold() {
+    assert_eq!(catalogue::list(2, 4, &[9; 12]), (0, vec![1, 1, 0, 0, 1, 0, 0, 1, 1, 1, 1, 1]));
+    assert_eq!(catalogue::list(3, 2, &[9; 6]), (0, vec![1, 0, 2, 1, 2, 2]));
+    assert_eq!(catalogue::list(5, 1, &[9; 5]), (0, vec![0, 1, 2, 3, 4]));
+    assert_eq!([(2, 16), (65_521, 1)].map(|(p, n)| catalogue::count(p, n)), [(0, 4_080), (0, 65_521)]);
+    let numbers = [(9, 17), (65_537, 17), (65_537, 1), (257, 2), (3, 11), (2, 4)].map(|(p, n)| catalogue::list(p, n, &[9; 11]));
+    assert_eq!(numbers, [1, 2, 29, 29, 29, 3].map(|number| (number, vec![9; 11])));
+    assert_eq!(catalogue::count(3, 11), (29, 0));
+}
+
 /// A wide card of the smallest p, with T1 = X + 1 and T2 = X + 65,536 in 17 bits each, and the same header with p = 17; what is too short for it; and
 /// how long cards are.
 fn wide_cards_hold() {
@@ -100,6 +111,7 @@ pub fn hold() {
     table_holds();
     matrices_hold();
     differences_hold();
+    catalogues_hold();
     wide_cards_hold();
     let pair = finder::pair(3, &[1, 0], &[2, 1]);
     assert_eq!((zeta_and_a(3, 2), &pair.alpha1[..], &pair.alpha2[..]), ((2, 2), &[0, 1][..], &[1, 2][..]));

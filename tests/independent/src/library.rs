@@ -8,6 +8,12 @@ pub fn number<T>(answer: Result<T, Refusal>) -> u32 {
     answer.map_or_else(Refusal::number, |_| 0)
 }
 
+/// The number and the count.
+pub fn catalogue_count(p: u32, n: u32) -> (u32, u32) {
+    let raw::Count { number, count } = unsafe { raw::yokebean_catalogue_count(p, n) };
+    (number, count)
+}
+
 pub fn new() -> Session {
     unsafe { raw::yokebean_session_new() }
 }

@@ -3,7 +3,10 @@
 use super::Tally;
 use crate::document::card::card_length;
 use crate::library::{self, number};
-use yokebean::{check, find, irreducible, maps, matrices, matrix_convert, power, product, sheet, sheet_length, substitute, Card, Size};
+use yokebean::{
+    check, count_models, find, irreducible, list_models, maps, matrices, matrix_convert, power, product, sheet, sheet_length, substitute,
+    Card, Size,
+};
 
 /// One more than the largest p.
 const END: usize = 1 << 20;
@@ -38,11 +41,13 @@ fn out(n: u32) -> Vec<u32> {
 
 /// Each call that takes p and n, and how many lists of n words it reads, the rows of a matrix being one; the lists that it writes have their right
 /// length.
-const CALLS: [(&str, usize, Call); 12] = [
+const CALLS: [(&str, usize, Call); 14] = [
     ("product", 3, |size, [t, u, v, _]| number(product(size, t, u, v, &mut out(size.n)))),
     ("power", 2, |size, [t, u, ..]| number(power(size, t, u, 5, &mut out(size.n)))),
     ("substitute", 3, |size, [t, s, u, _]| number(substitute(size, t, s, u, &mut out(size.n)))),
     ("irreducible", 1, |size, [t, ..]| number(irreducible(size, t))),
+    ("catalogue_count", 0, |size, _| number(count_models(size))),
+    ("catalogue_list", 0, |size, _| number(list_models(size, &mut []))),
     ("check", 4, |size, [t1, t2, s, r]| number(check(size, t1, t2, s, r))),
     ("maps", 4, |size, [t1, t2, s, r]| number(maps(size, t1, t2, s, r, &mut out(size.n * size.n)))),
     ("matrices", 4, |size, [t1, t2, s, r]| number(matrices(size, t1, t2, s, r, &mut out(size.n * size.n), &mut out(size.n * size.n)))),
