@@ -1,15 +1,13 @@
 -- The models of the catalogue and the other calls: a list is a model exactly when it has no proper divisor, and that is what 6 and 7 ask.
-use mathlib.Core.Path.{_≡_, ap, sym, _∙_}
+use mathlib.Core.Path.{_≡_, _∙_}
 use mathlib.Core.Bool.{Bool, true, false, not}
 use mathlib.Core.List.{List, [], _∷_}
-use Prim.Native.Nat.{ℕ, _^_, _≤_}
+use Prim.Native.Nat.{ℕ, _≤_}
 use native.Mathlib.Omega.{arith}
 use borrow.Author.Tests.{not-true}
-use lib.Dec.{ltb}
-use lib.ListN.{length}
 use Rattle.algebra.specs.Lists.{Member}
 use Rattle.algebra.proofs.Search.{filter-member}
-use Rattle.catalogue.specs.Catalogue.{mostPolynomials, models, countNumber}
+use Rattle.catalogue.specs.Catalogue.{models, countNumber}
 use Rattle.catalogue.proofs.Theorem as Catalogue
 use Rattle.finder.specs.Finder.{findable, Findable, findNumber}
 use Rattle.finder.proofs.Findable.{find-models, findable-true}
@@ -19,7 +17,7 @@ use Rattle.quotient.specs.Residue.{residues}
 use Rattle.refusal.specs.Models.{Model, Models}
 use Rattle.refusal.specs.Refusal.{refuse, badPrime, badDegree, badLength, badWord}
 use Rattle.refusal.proofs.Refusal.{refuse-none, prime-given, degree-given}
-use Rattle.promises.specs.ListedModels.{ListedIsIrreducible, Taken, FinderTakesListed}
+use Rattle.promises.specs.ListedModels.{ListedIsIrreducible, FinderTakesListed}
 
 -- what the number 0 leaves
 module _ (p n : ℕ) (h : countNumber p n ≡ 0) where

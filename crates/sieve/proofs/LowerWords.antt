@@ -3,7 +3,6 @@
 use mathlib.Core.Path.{_≡_, refl, sym, ap, ap₂, _∙_}
 use mathlib.Core.List.{List, [], _∷_, _++_}
 use Prim.Native.Nat.{ℕ, zero, suc, _/_, _%_, _^_, _≤_, _<_}
-use native.Mathlib.Nat.{one-le-pow, mod-lt}
 use native.Mathlib.Omega.{arith}
 use lib.ListN.{length}
 use Rattle.array.specs.Words.{Words}
@@ -12,8 +11,7 @@ use Rattle.array.proofs.Words.{words-length}
 use Rattle.array.proofs.Digits.{digits-length, digits-snoc}
 use Rattle.quotient.specs.Residue.{Residue, sum, scale, constant, timesX, product}
 use Rattle.quotient.proofs.Action.{PolynomialModule, act, act-append, act-word, act-monic, iterate, iterate-act}
-use Rattle.quotient.proofs.Operations.{sum-words, scale-words, product-words}
-use Rattle.quotient.proofs.Sums.{sum-assoc, sum-zero}
+use Rattle.quotient.proofs.Operations.{sum-words, product-words}
 use Rattle.quotient.proofs.Ring.{residueModule, addResidue, product-act}
 use Rattle.quotient.proofs.Ring as Residues
 use Rattle.quotient.proofs.Multiples.{lowWords, lowWords-is}

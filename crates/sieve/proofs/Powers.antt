@@ -1,5 +1,5 @@
 -- Powers of p: what the sieve's bounds rest on.
-use mathlib.Core.Path.{_≡_, sym, ap, subst, _∙_}
+use mathlib.Core.Path.{_≡_, sym, subst, _∙_}
 use Prim.Native.Nat.{ℕ, suc, _+_, _-_, _*_, _^_, _≤_, _<_}
 use native.Mathlib.Decide.{decLe}
 use native.Mathlib.Nat.{mul-comm, mul-le-mul-right, one-le-pow, pow-le-pow-right}

@@ -11,6 +11,3 @@ mod lows;
 mod plane;
 pub mod sieve;
 mod strike;
-
-// The most codes of one degree: p^n is at most this.
-pub const CODES: u32 = 65536;

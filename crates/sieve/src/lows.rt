@@ -1,8 +1,7 @@
 // The lower words of all multiples of D of one degree, as numbers in base p, by the higher words: one word after the other, from the highest down.
 ghost use mathlib.Core.Path.{_≡_};
-ghost use mathlib.Core.List.{[]};
-ghost use Prim.Native.Nat.{_+_, _*_, _%_, _^_, _≤_, _<_};
-ghost use lib.ListN.{length, getD, take};
+ghost use Prim.Native.Nat.{_+_, _*_, _^_, _≤_, _<_};
+ghost use lib.ListN.{length, take};
 ghost use Rattle.array.specs.Array.{Holds};
 ghost use Rattle.modular.specs.Barrett.{Reduces};
 ghost use Rattle.sieve.specs.Contracts.{WordsBelow, Collected, Lows};

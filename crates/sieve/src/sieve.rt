@@ -2,7 +2,7 @@
 ghost use mathlib.Core.Path.{_≡_};
 ghost use mathlib.Core.List.{List};
 ghost use Prim.Native.Nat.{_+_, _/_, _^_, _≤_, _<_};
-ghost use lib.ListN.{length, getD, replicate};
+ghost use lib.ListN.{length, replicate};
 ghost use Rattle.sieve.specs.Contracts.{Sieved, Progress, Room, Clear, SievedBelow, Outside};
 use crate::digits::power;
 use crate::strike::strike_multiples;

@@ -51,11 +51,11 @@ module _ (p n m c : ℕ) (marks : List ℕ) (big : 2 ≤ p) (low : 1 ≤ n) (hal
   words i = digits-words p m i (omega arith)
 
   -- the polynomials up to D are those before it and D itself
-  up-to : (e : ℕ) (u : List ℕ) → Words p e u → (e < n) ⊎ ((e ≡ n) × (code p u < c + 1)) → Dec (e < n) → Dec (code p u < c)
+  up-to : (e : ℕ) (u : List ℕ) → Words p e u → (e < n) ⊎ ((e ≡ n) × (code p u < c + 1)) → Dec (code p u < c)
       → ((e < n) ⊎ ((e ≡ n) × (code p u < c))) ⊎ (u ≡ D)
-  up-to e u wu (inl l) d d′ = inl (inl l)
-  up-to e u wu (inr (same, l)) d (yes l′) = inl (inr (same, l′))
-  up-to e u wu (inr (same, l)) d (no l′) =
+  up-to e u wu (inl l) d = inl (inl l)
+  up-to e u wu (inr (same, l)) (yes l′) = inl (inr (same, l′))
+  up-to e u wu (inr (same, l)) (no l′) =
       let here : code p u ≡ c = omega arith in
       let wu′ : Words p n u = rw same at wu in
       inr (sym (digits-code wu′) ∙ ap (digits p n) here)
@@ -83,7 +83,7 @@ module _ (p n m c : ℕ) (marks : List ℕ) (big : 2 ≤ p) (low : 1 ≤ n) (hal
         record {
           room = s .same-length ∙ h .room;
           sound = λ i l. sound-struck i l (dividesTest p D (digits p m i)) refl;
-          complete = λ i e u l positive before wu d. complete-struck i e u l positive wu d (up-to e u wu before (decLt e n) (decLt (code p u) c));
+          complete = λ i e u l positive before wu d. complete-struck i e u l positive wu d (up-to e u wu before (decLt (code p u) c));
         }
 
   -- D is marked
@@ -107,7 +107,7 @@ module _ (p n m c : ℕ) (marks : List ℕ) (big : 2 ≤ p) (low : 1 ≤ n) (hal
         record {
           room = h .room;
           sound = h .sound;
-          complete = λ i e u l positive before wu d. complete-skipped i e u l positive wu d (up-to e u wu before (decLt e n) (decLt (code p u) c));
+          complete = λ i e u l positive before wu d. complete-skipped i e u l positive wu d (up-to e u wu before (decLt (code p u) c));
         }
 
   -- all D of degree n are passed

@@ -2,9 +2,8 @@
 use borrow.Author.Needs.{needs}
 use mathlib.Core.Path.{_≡_}
 use Prim.Native.Nat.{_-_, _/_, _^_, _≤_}
-use native.Mathlib.Omega.{arith}
 use lib.ListN.{length}
-use Rattle.array.proofs.Painted.{painted, painted-none, painted-turn, painted-length}
+use Rattle.array.proofs.Painted.{painted, painted-none, painted-turn}
 use Rattle.sieve.proofs.digits.Turns.{digitOf, rest-all, rest-digit, rest-turn, digits-written}
 use Rattle.sieve.proofs.digits.write_digits.Statement.{statement}
 use Rattle.sieve.proofs.digits.write_digits.Tie as tie

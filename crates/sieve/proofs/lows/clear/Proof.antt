@@ -1,7 +1,6 @@
 -- Before turn h the first h words are 0.
 use borrow.Author.Needs.{needs}
 use Prim.Native.Nat.{_-_, _≤_}
-use native.Mathlib.Omega.{arith}
 use Rattle.sieve.specs.Contracts.{WordsBelow}
 use Rattle.sieve.proofs.lows.Codes.{cleared-none, cleared-turn, cleared-done}
 use Rattle.sieve.proofs.lows.clear.Statement.{statement}

@@ -2,7 +2,6 @@
 use borrow.Author.Needs.{needs}
 use mathlib.Core.Path.{_≡_}
 use Prim.Native.Nat.{_-_, _≤_}
-use native.Mathlib.Omega.{arith}
 use lib.ListN.{length}
 use Rattle.sieve.specs.Contracts.{Collected}
 use Rattle.sieve.proofs.lows.Codes.{word-of, collected-none, collected-old, collected-turn, collected-done}

@@ -2,7 +2,6 @@
 use borrow.Author.Needs.{needs}
 use mathlib.Core.Path.{_≡_}
 use Prim.Native.Nat.{_≤_}
-use native.Mathlib.Omega.{arith}
 use lib.ListN.{length, take}
 use Rattle.sieve.specs.Contracts.{Lows}
 use Rattle.sieve.proofs.lows.Codes.{lows-begun, lows-below, start-below, lows-turn, lows-done, lows-few, count-few, prime-few, prime-short, same-few, digit-plane}

@@ -1,9 +1,8 @@
 -- Before turn x the first x words of the block are there.
 use borrow.Author.Needs.{needs}
 use Prim.Native.Nat.{_-_, _≤_}
-use native.Mathlib.Omega.{arith}
 use Rattle.sieve.specs.Contracts.{Block}
-use Rattle.sieve.proofs.plane.Blocks.{block-none, block-word, block-length, block-turn, block-done}
+use Rattle.sieve.proofs.plane.Blocks.{block-none, block-word, block-turn, block-done}
 use Rattle.sieve.proofs.plane.add_block.Statement.{statement}
 use Rattle.sieve.proofs.plane.add_block.Tie as tie
 

@@ -2,7 +2,6 @@
 use borrow.Author.Needs.{needs}
 use mathlib.Core.Path.{_≡_}
 use Prim.Native.Nat.{_-_, _*_, _≤_, _<_}
-use native.Mathlib.Omega.{arith}
 use Rattle.sieve.proofs.plane.Blocks.{Doubled, doubled-first, doubled-below, doubled-turn, doubled-end, first-end, more-less}
 use Rattle.sieve.proofs.plane.extend.Statement.{statement}
 use Rattle.sieve.proofs.plane.extend.Tie as tie

@@ -2,7 +2,6 @@
 use borrow.Author.Needs.{needs}
 use mathlib.Core.Path.{_≡_}
 use Prim.Native.Nat.{_-_, _^_, _≤_}
-use native.Mathlib.Omega.{arith}
 use lib.ListN.{take}
 use Rattle.array.specs.Array.{padded, Holds}
 use Rattle.matrix.specs.Matrix.{multiple}

@@ -2,7 +2,6 @@
 use borrow.Author.Needs.{needs}
 use mathlib.Core.Logic.{inl, inr}
 use mathlib.Core.Path.{refl}
-use native.Mathlib.Omega.{arith}
 use Rattle.sieve.proofs.plane.smaller.Statement.{statement}
 use Rattle.sieve.proofs.plane.smaller.Tie as tie
 

@@ -1,6 +1,5 @@
 -- A word of a residue is below p.
 use borrow.Author.Needs.{needs}
-use native.Mathlib.Omega.{arith}
 use Rattle.array.proofs.Padded.{array-length}
 use Rattle.sieve.proofs.plane.Planes.{word-small, word-below}
 use Rattle.sieve.proofs.plane.word.Statement.{statement}
