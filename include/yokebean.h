@@ -69,7 +69,7 @@ yokebean_count yokebean_catalogue_count(uint32_t p, uint32_t n);
  *    1 1 0 0   X^4 + X + 1
  *    1 0 0 1   X^4 + X^3 + 1
  *    1 1 1 1   X^4 + X^3 + X^2 + X + 1
- * No call refuses such a modulus with 6 or 7. 1, 2, 29, 3. */
+ * The finder refuses no such modulus with 6 or 7. 1, 2, 29, 3. */
 uint32_t yokebean_catalogue_list(uint32_t p, uint32_t n, uint32_t *out, size_t out_len);
 
 /* The checker: whether T1 and T2 are irreducible and the four congruences hold; then both models are fields, in which every residue but 0 has an
