@@ -91,12 +91,6 @@ unfolding code digits
 digits-code none = refl
 digits-code {p} (more {a = a} {n = n} {u = u} h w) = sym (digits-cons p n a (code p u) h) ∙ ap (a ∷_) (digits-code w)
 
-pub digits-injective : (p n c c′ : ℕ) → c < p ^ n → c′ < p ^ n → digits p n c ≡ digits p n c′ → c ≡ c′
-digits-injective p zero c c′ l l′ e = below-one p c l ∙ sym (below-one p c′ l′)
-digits-injective zero (suc n) c c′ l l′ e = absurd (omega (arith, l, pow-suc 0 n))
-digits-injective (suc p) (suc n) c c′ l l′ e =
-    sym (code-digits (suc p) (suc n) c (omega arith) l) ∙ ap (code (suc p)) e ∙ code-digits (suc p) (suc n) c′ (omega arith) l′
-
 -- two lists of digits in a row
 
 -- without its factor p, a number behind d + 1 digits is one behind d digits
@@ -108,13 +102,6 @@ high-mod p d l h = ap (λ x. (l + x) % p) (power-times p d h) ∙ add-mul-mod-se
 
 high-div : (p d l h : ℕ) → 0 < p → (l + p ^ suc d * h) / p ≡ l / p + p ^ d * h
 high-div p d l h positive = ap (λ x. (l + x) / p) (power-times p d h) ∙ add-mul-div-left l (p ^ d * h) positive
-
-pub code-append : {p n : ℕ} {u : List ℕ} (v : List ℕ) → Words p n u → code p (u ++ v) ≡ code p u + p ^ n * code p v
-unfolding code
-code-append {p} v none = rw (pow-zero p) (omega arith)
-code-append {p} v (more {a = a} {n = n} {u = u} h w) =
-    let e : p ^ suc n * code p v ≡ p * (p ^ n * code p v) = power-times p n (code p v) in
-    ap (λ x. a + p * x) (code-append v w) ∙ omega (arith, e)
 
 pub digits-append : (p d k l h : ℕ) → 0 < p → l < p ^ d → digits p (d + k) (l + p ^ d * h) ≡ digits p d l ++ digits p k h
 unfolding digits
@@ -144,7 +131,7 @@ digits-snoc p k c h l =
 
 -- each digit
 
-pub digits-at : (p n c i : ℕ) → i < n → getD (digits p n c) i 0 ≡ c / p ^ i % p
+digits-at : (p n c i : ℕ) → i < n → getD (digits p n c) i 0 ≡ c / p ^ i % p
 unfolding digits
 digits-at p zero c i l = absurd (omega arith)
 digits-at p (suc n) c zero l = ap (λ x. x % p) (sym (ap (λ x. c / x) (pow-zero p) ∙ div-one c))

@@ -64,7 +64,7 @@ module _ (p n : ℕ) where
           let right : not (eqb (length out) (n * length (models p n))) ≡ false = refuse-none 2 (not (eqb (length out) (n * length (models p n)))) 0 (sym (follows-passes chain h) ∙ z) .0 in
           eqb-true (length out) (n * length (models p n)) (not-false (eqb (length out) (n * length (models p n))) right)
 
-      pub list-refuses : (length out ≡ n * length (models p n) → ⊥) → listNumber p n out ≡ 3
+      list-refuses : (length out ≡ n * length (models p n) → ⊥) → listNumber p n out ≡ 3
       list-refuses e = follows-passes chain h ∙ ap (λ b. refuse 3 (not b) 0) (ne-eqb (length out) (n * length (models p n)) e)
 
   -- refused by p and n

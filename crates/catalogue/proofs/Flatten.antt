@@ -1,10 +1,10 @@
--- Lists one after the other: where each has n words, there are n words for each, and list k is the n words from word k·n on.
+-- Lists one after the other: where each has n words, list k is the n words from word k·n on.
 use mathlib.Core.Path.{_≡_, refl, sym, ap, _∙_}
 use mathlib.Core.List.{List, [], _∷_, _++_, append-assoc, flatten}
 use Prim.Native.Nat.{ℕ, zero, suc, _+_, _*_, _<_}
-use native.Mathlib.Nat.{mul-zero, zero-mul}
+use native.Mathlib.Nat.{zero-mul}
 use native.Mathlib.Omega.{arith}
-use lib.ListN.{length, take, drop, getD, length-append}
+use lib.ListN.{length, take, drop, getD}
 use lib.Seq.{take-at, drop-append-add}
 use Rattle.algebra.specs.Lists.{All}
 
@@ -14,13 +14,6 @@ flatten-append [] vs = refl
 flatten-append (u ∷ us) vs = ap (λ l. u ++ l) (flatten-append us vs) ∙ sym (append-assoc u (flatten us) (flatten vs))
 
 module _ (n : ℕ) where
-  pub flatten-length : (us : List (List ℕ)) → All (λ u. length u ≡ n) us → length (flatten us) ≡ n * length us
-  unfolding flatten
-  flatten-length [] h = sym (mul-zero n)
-  flatten-length (u ∷ us) h =
-      let rest : length (flatten us) ≡ n * length us = flatten-length us (h .1) in
-      length-append u (flatten us) ∙ omega (arith, h .0)
-
   pub flatten-part : (us : List (List ℕ)) → All (λ u. length u ≡ n) us → (k : ℕ) → k < length us → take n (drop (k * n) (flatten us)) ≡ getD us k []
   unfolding flatten
   flatten-part [] h k l = absurd (omega arith)

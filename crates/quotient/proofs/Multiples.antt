@@ -12,7 +12,7 @@ use Rattle.quotient.specs.Residue.{Residue, sum, scale, timesX}
 use Rattle.quotient.specs.Divisor.{monic}
 use Rattle.quotient.specs.DivisorTest.{dividesTest}
 use Rattle.quotient.proofs.Action.{PolynomialModule, add-cancel, linear-zero, act, act-linear, act-add, act-append, act-word, act-monic, multiple-one, iterate, iterate-act}
-use Rattle.quotient.proofs.Operations.{residue-path, scale-words, sum-words, timesX-words}
+use Rattle.quotient.proofs.Operations.{residue-path}
 use Rattle.quotient.proofs.Ring.{residueModule, residueRing, addResidue, oneResidue, multiple-is, act-one, modulus-vanishes}
 use Rattle.quotient.proofs.Substitution.{evaluate-x}
 use Rattle.quotient.proofs.Reduction.{reduce}
@@ -22,11 +22,6 @@ use Rattle.quotient.proofs.Decision.{test-divides, divides-test}
 unfoldable pub lowWords : ℕ → List ℕ → List ℕ → List ℕ
 lowWords p d [] = d
 lowWords p d (a ∷ h) = sum p (scale p a d) (timesX p d (lowWords p d h))
-
-pub lowWords-words : {p m : ℕ} {d : List ℕ} → 2 ≤ p → Words p (suc m) d → (h : List ℕ) → Words p (suc m) (lowWords p d h)
-unfolding lowWords
-lowWords-words big wd [] = wd
-lowWords-words big wd (a ∷ h) = sum-words (scale-words a wd) (timesX-words big wd (lowWords-words big wd h))
 
 module _ {p m : ℕ} {d : List ℕ} (big : 2 ≤ p) (wd : Words p (suc m) d) where
   abbrev K : PolynomialModule p (Residue p (suc m))

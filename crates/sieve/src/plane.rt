@@ -1,5 +1,5 @@
-// Word j of the sums x_0·D + x_1·X·D + x_2·X²·D + … modulo D, for all numbers x of k digits at once. With each further digit there are p times as many, in p blocks: block a has the
-// words so far, each plus a times word j of X^k·D.
+// Word j of H·D modulo D, where D stands for its lower words, for all lists H of k words at once: that for the list with the number x in base p is word x of an array. With each
+// further word of H there are p times as many, in p blocks: block a has the words so far, each plus a times word j of X^k·D.
 ghost use mathlib.Core.Logic.{_⊎_};
 ghost use mathlib.Core.Path.{_≡_};
 ghost use Prim.Native.Nat.{_+_, _*_, _%_, _^_, _≤_, _<_};
@@ -76,7 +76,7 @@ fn word(p: u64, n: usize, j: usize, w: &[u64; 16]) -> u16
     narrow(w[j])
 }
 
-// Word j of the sums for all numbers of k digits. Handed back is word j of X^k·D.
+// Word j of H·D modulo D for all H of k words. Handed back is word j of X^k·D.
 pub fn plane(d: Barrett, n: usize, k: usize, t: &[u64; 16], j: usize, xs: &mut [u16; 32768]) -> u16
     requires { ⌜ Reduces d × (d .p ≤ 256) × (1 ≤ n) × (n ≤ 16) × (j < n) × (d .p ^ k ≤ 32768) ⌝ }
     requires { ⌜ Holds (d .p) n (now t) × (length (now xs) ≡ 32768) ⌝ }

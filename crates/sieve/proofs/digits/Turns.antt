@@ -2,7 +2,7 @@
 use mathlib.Core.Path.{_≡_, refl, sym, ap, _∙_}
 use mathlib.Core.List.{List}
 use Prim.Native.Nat.{ℕ, _+_, _*_, _/_, _%_, _^_, _≤_, _<_}
-use native.Mathlib.Nat.{pow-zero, pow-suc, pow-le-pow-right, div-one, div-eq-of-lt, mod-eq-of-lt}
+use native.Mathlib.Nat.{pow-zero, pow-suc, pow-le-pow-right, div-one, div-eq-of-lt}
 use native.Mathlib.Numerals.{add-one}
 use native.Mathlib.Omega.{arith}
 use lib.ListN.{length}
@@ -26,11 +26,7 @@ power-most p k i r some few less e =
 pub power-end : (p k i r : ℕ) → i ≤ k → k ≤ i → r ≡ p ^ i → r ≡ p ^ k
 power-end p k i r l l′ e = let same : i ≡ k = omega arith in e ∙ ap (λ j. p ^ j) same
 
--- a number below p has one digit
-
-pub below-digit : (p c : ℕ) → c < p → c ≡ c % p
-below-digit p c l = sym (mod-eq-of-lt l)
-
+-- a number below p has no other digit
 pub below-others : (p c : ℕ) → c < p → 0 ≡ c / p
 below-others p c l = sym (div-eq-of-lt l)
 

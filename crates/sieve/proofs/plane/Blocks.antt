@@ -25,7 +25,7 @@ module _ (p size to v x : ℕ) (xs₀ xs : List ℕ) (far : size ≤ to) (less :
   pub block-word : WordsBelow p size xs₀ → getD xs x 0 < p
   block-word w = subst (λ a. a < p) (sym (h .before x (omega arith))) (w .words x less)
 
-  pub block-length : WordsBelow p size xs₀ → length xs ≡ 32768
+  block-length : WordsBelow p size xs₀ → length xs ≡ 32768
   block-length w = h .same-length ∙ w .size
 
   pub block-turn : (r : ℕ) → WordsBelow p size xs₀ → to + size ≤ 32768 → r ≡ (getD xs x 0 + v) % p → Block p (x + 1) to v xs₀ (set xs (to + x) r)
@@ -100,7 +100,7 @@ doubled-first p size c xs big less w = record {
   };
 }
 
-pub fewer-below : (p to more : ℕ) (xs : List ℕ) → WordsBelow p to xs → more ≤ to → WordsBelow p more xs
+fewer-below : (p to more : ℕ) (xs : List ℕ) → WordsBelow p to xs → more ≤ to → WordsBelow p more xs
 fewer-below p to more xs w l = record { size = w .size; words = λ x m. w .words x (omega arith) }
 
 pub doubled-below : (p size c to v more : ℕ) (xs₀ xs : List ℕ) → Doubled p size c to v xs₀ xs → more ≤ to → WordsBelow p more xs
