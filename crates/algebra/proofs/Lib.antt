@@ -6,6 +6,7 @@ mod Binomial
 pub mod Frobenius
 pub mod Totals
 pub mod Lists
+pub mod Places
 pub mod Counting
 pub mod Search
 pub mod FieldLaws

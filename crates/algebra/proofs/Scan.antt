@@ -1,20 +1,13 @@
 -- Scanning a list from the front: after i elements that passed the test, the elements from i on decide.
 --   Left test xs i   whether all of xs pass is whether all from i on do
-use mathlib.Core.Path.{_≡_, refl, sym, ap, _∙_}
+use mathlib.Core.Path.{_≡_, sym, ap, _∙_}
 use mathlib.Core.Bool.{Bool, true, false, _&&_}
-use mathlib.Core.List.{List, [], _∷_}
-use mathlib.Core.Logic.{inl, inr}
-use Prim.Native.Nat.{ℕ, zero, suc, _+_, _≤_, _<_}
-use native.Mathlib.Nat.{le-of-suc-le-suc, not-suc-le-zero}
+use mathlib.Core.List.{List}
+use Prim.Native.Nat.{ℕ, _+_, _≤_, _<_}
 use native.Mathlib.Numerals.{add-one}
 use lib.ListN.{length, getD, drop, drop-of-length-le}
 use lib.Seq.{drop-cons}
-use Rattle.algebra.specs.Lists.{Member, all}
-
-pub getD-member : (xs : List ℕ) (i : ℕ) → i < length xs → Member (getD xs i 0) xs
-getD-member [] i h = absurd (not-suc-le-zero h)
-getD-member (x ∷ xs) zero h = inl refl
-getD-member (x ∷ xs) (suc i) h = inr (getD-member xs i (le-of-suc-le-suc h))
+use Rattle.algebra.specs.Lists.{all}
 
 module _ (test : ℕ → Bool) (xs : List ℕ) (i : ℕ) where
   abbrev pub Left : Type 0

@@ -1,4 +1,4 @@
--- Laws of lists of words, of arrays that hold them, of loops that fill an array, and of ascending lists of lists.
+-- Laws of lists of words, of arrays that hold them, of loops that fill an array, of ascending lists of lists, and of lists one after the other.
 pub mod Words
 pub mod Painted
 pub mod Padded
@@ -9,3 +9,4 @@ pub mod Ascending
 pub mod Filling
 pub mod Ranges
 pub mod Digits
+pub mod Flatten

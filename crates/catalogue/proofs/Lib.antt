@@ -1,6 +1,5 @@
 -- The proofs of the catalogue.
 mod Filter
-mod Flatten
 mod Unmarked
 mod Answers
 pub mod Theorem

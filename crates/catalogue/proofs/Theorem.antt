@@ -22,7 +22,7 @@ use Rattle.refusal.specs.Refusal.{written}
 use Rattle.catalogue.specs.Catalogue.{models, countNumber, modelCount, listNumber, listOutput}
 use Rattle.catalogue.specs.Theorem.{EveryModel, CountIsListed}
 use Rattle.catalogue.proofs.Answers.{count-is, list-accepts, accepted-length}
-use Rattle.catalogue.proofs.Flatten.{flatten-part}
+use Rattle.array.proofs.Flatten.{flatten-part}
 
 module _ (p n : ℕ) where
   abbrev test : List ℕ → Bool

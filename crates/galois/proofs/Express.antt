@@ -1,17 +1,15 @@
 -- If the powers 1, s, …, s^(n − 1) modulo T are independent, exactly one P of degree below n has P(s) = X modulo T, and the search finds it:
 -- P ↦ P(s) is an injective map of the p^n residues into themselves, hence onto.
 use mathlib.Core.Path.{_≡_, sym, _∙_, subst}
-use mathlib.Core.List.{List, List-discrete}
+use mathlib.Core.List.{List}
 use Prim.Native.Nat.{ℕ, _≤_}
-use native.Mathlib.Decide.{ℕ-discrete}
 use lib.ListN.{length}
 use Rattle.algebra.specs.Lists.{equal}
-use Rattle.algebra.proofs.Counting.{injective-onto}
 use Rattle.algebra.proofs.Equality.{equal-of, of-equal}
 use Rattle.algebra.proofs.Search.{first-unique}
 use Rattle.array.specs.Words.{Words}
 use Rattle.quotient.specs.Residue.{residues, constant, residueOfX, substitute, firstResidue}
-use Rattle.quotient.proofs.Listing.{residues-complete, residues-sound, residues-distinct}
+use Rattle.quotient.proofs.Listing.{residues-complete, residues-sound, one-to-one-onto}
 use Rattle.quotient.proofs.Operations.{substitute-words, residueOfX-words}
 use Rattle.array.proofs.Words.{to-length, of-length}
 use Rattle.galois.specs.Express.{express, Independent}
@@ -19,11 +17,7 @@ use Rattle.galois.specs.Express.{express, Independent}
 module _ {p n : ℕ} {t s : List ℕ} (big : 2 ≤ p) (wt : Words p n t) (ws : Words p n s) (independent : Independent p n t s) where
   expression : (f : List ℕ) × Words p n f × (substitute p t s f ≡ residueOfX p t)
   expression =
-      let (f, m, e) = injective-onto (List-discrete ℕ-discrete) (substitute p t s) (residues p n) (residues-distinct p n)
-      (λ a m. residues-complete p n (substitute p t s a) (substitute-words big wt ws (residues-sound p n a m)))
-      (λ a b k m e. independent a b (residues-sound p n a k) (residues-sound p n b m) e)
-      (residueOfX p t) (residues-complete p n (residueOfX p t) (residueOfX-words big wt)) in
-      (f, residues-sound p n f m, sym e)
+      one-to-one-onto p n (substitute p t s) (λ u wu. substitute-words big wt ws wu) independent (residueOfX p t) (residueOfX-words big wt)
 
   -- whatever has the value X at s is found
   pub express-unique : (f : List ℕ) → Words p n f → substitute p t s f ≡ residueOfX p t → express p t s ≡ f

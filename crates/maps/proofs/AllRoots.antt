@@ -2,19 +2,19 @@
 -- and takes X to S, so that the period of S under u ↦ u^p is that of X, which is n: S, S^p, …, S^(p^(n−1)) are distinct. They are roots of T1, since
 -- T1(S)^p = T1(S^p), and T1, of degree n, has no more.
 use mathlib.Core.Path.{_≡_, sym, ap, _∙_}
-use mathlib.Core.List.{List, [], _∷_, _++_, map}
-use Prim.Native.Nat.{ℕ, suc, _-_, _^_, _<_}
+use mathlib.Core.List.{List, _∷_, map}
+use mathlib.Core.Logic.{inl, inr}
+use Prim.Native.Nat.{ℕ, suc, _-_, _^_, _≤_, _<_}
 use native.Mathlib.Nat.{one-le-pow}
 use native.Mathlib.Omega.{arith}
-use lib.ListN.{length, length-append, length-map}
+use lib.ListN.{length, length-map}
 use Rattle.algebra.specs.Lists.{Member, Distinct, range}
 use Rattle.algebra.specs.Prime.{Prime}
-use Rattle.algebra.specs.Ring.{CommutativeRing, Field, numeral, power}
+use Rattle.algebra.specs.Ring.{CommutativeRing, Field, power}
 use Rattle.algebra.proofs.Counting.{member?}
-use Rattle.algebra.proofs.Lists.{member-all, map-member, distinct-map}
+use Rattle.algebra.proofs.Lists.{map-member, distinct-map}
 use Rattle.algebra.proofs.Period.{period-distinct}
-use Rattle.algebra.proofs.RingLaws.{power-of-zero, numeral-one}
-use Rattle.algebra.proofs.Roots.{Zero, Root, roots-at-most-degree}
+use Rattle.algebra.proofs.RingLaws.{power-of-zero}
 use Rattle.algebra.proofs.Search.{range-length, range-bounds, range-distinct}
 use Rattle.array.specs.Words.{Words}
 use Rattle.array.proofs.Words.{words-length}
@@ -23,17 +23,12 @@ use Rattle.irreducible.proofs.PeriodOfX.{no-lower-period}
 use Rattle.quotient.specs.Divisor.{HasDivisor, monic}
 use Rattle.quotient.specs.Residue.{Residue, constant, conjugate, modulusAt}
 use Rattle.quotient.proofs.Conjugates.{conjugate-is, evaluate-conjugate}
-use Rattle.quotient.proofs.Evaluation.{evaluate}
+use Rattle.quotient.proofs.Evaluation.{evaluate, monic-roots-at-most}
 use Rattle.quotient.proofs.Field.{residueField, power-of-size}
 use Rattle.quotient.proofs.Operations.{residue-path, residue-discrete}
 use Rattle.quotient.proofs.Reduction.{characteristic, zero-is}
 use Rattle.quotient.proofs.Ring.{residueRing, xResidue}
 use Rattle.quotient.proofs.Substitution.{homomorphism-power, evaluate-of-x, modulusAt-is}
-
--- the leading coefficient of a monic polynomial is not 0
-leading : {A : Type 0} (R : CommutativeRing A) (t : List ℕ) → Zero R (map (numeral R) (t ++ 1 ∷ [])) → numeral R 1 ≡ R .zero
-leading R [] h = h .0
-leading R (c ∷ t) h = leading R t (h .1)
 
 module _ {p n : ℕ} {t1 t2 s : List ℕ} (prime : Prime p) (w1 : Words p (suc n) t1) (w2 : Words p (suc n) t2) (none1 : HasDivisor p t1 → ⊥) (none2 : HasDivisor p t2 → ⊥)
     (ws : Words p (suc n) s) (root : modulusAt p t2 s t1 ≡ constant (suc n) 0) where
@@ -103,19 +98,19 @@ module _ {p n : ℕ} {t1 t2 s : List ℕ} (prime : Prime p) (w1 : Words p (suc n
 
   -- T1 has no other root
   root-conjugate : (u : Residue p (suc n)) → evaluate L (monic t1) u ≡ L .zero → Member u conjugates
-  unfolding residueField evaluate monic
+  unfolding residueField
   root-conjugate u e = by-member (member? (residue-discrete p (suc n)) u conjugates)
     where
-      each : (v : Residue p (suc n)) → Member v conjugates → Root F (map (numeral L) (monic t1)) v
-      each v m = let (k, l, f) = conjugate-of v m in ap (evaluate L (monic t1)) f ∙ power-root k
+      each : (v : Residue p (suc n)) → Member v (u ∷ conjugates) → evaluate L (monic t1) v ≡ L .zero
+      each v (inl f) = ap (evaluate L (monic t1)) f ∙ e
+      each v (inr m) = let (k, l, f) = conjugate-of v m in ap (evaluate L (monic t1)) f ∙ power-root k
 
       by-member : Dec (Member u conjugates) → Member u conjugates
       by-member (yes m) = m
       by-member (no absent) =
-          let few : length (u ∷ conjugates) < length (map (numeral L) (monic t1)) =
-          roots-at-most-degree F (u ∷ conjugates) (map (numeral L) (monic t1)) (λ z. F .one-ne-zero (sym (numeral-one L) ∙ leading L t1 z)) (absent, conjugates-distinct)
-          (e, member-all (Root F (map (numeral L) (monic t1))) conjugates each) in
-          absurd (omega (arith, conjugates-length, length-map (monic t1) (numeral L), length-append t1 (1 ∷ []), words-length w1))
+          let few : length (u ∷ conjugates) ≤ length t1 =
+          monic-roots-at-most F p (characteristic (prime .0) w2) t1 (u ∷ conjugates) (absent, conjugates-distinct) each in
+          absurd (omega (arith, conjugates-length, words-length w1))
 
   -- on lists
 

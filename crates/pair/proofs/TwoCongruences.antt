@@ -3,14 +3,12 @@
 -- backward after forward gives back every residue as well. The other two congruences hold because they hold after the forward map:
 -- T2(R) goes to T2(X) = 0, and S(R) goes to S(X) = S, as X does.
 use mathlib.Core.Path.{_≡_, sym, ap, _∙_}
-use mathlib.Core.List.{List, List-discrete}
+use mathlib.Core.List.{List}
 use Prim.Native.Nat.{ℕ, suc, _≤_}
-use native.Mathlib.Decide.{ℕ-discrete}
 use native.Mathlib.Omega.{arith}
-use Rattle.algebra.proofs.Counting.{injective-onto}
 use Rattle.quotient.specs.Map.{Preserves, Undoes}
 use Rattle.array.specs.Words.{Words}
-use Rattle.quotient.specs.Residue.{residues, constant, residueOfX, substitute, modulusAt}
+use Rattle.quotient.specs.Residue.{constant, residueOfX, substitute, modulusAt}
 use Rattle.quotient.proofs.Listing as Listing
 use Rattle.quotient.proofs.Substitution as Substitution
 use Rattle.array.proofs.Words as Words
@@ -32,18 +30,15 @@ module _ {p n : ℕ} {t1 t2 s r : List ℕ} (big : 2 ≤ p) (w1 : Words p (suc n
   unfolding forward backward
   forth-undoes-back = Substitution.substitution-undoes big w1 w2 ws root wr inverse
 
-  backward-onto : (u : List ℕ) → Words p (suc n) u → (v : List ℕ) × Words p (suc n) v × (u ≡ backward p t1 r v)
-  backward-onto u wu =
-      let (v, m, e) = injective-onto (List-discrete ℕ-discrete) (backward p t1 r) (residues p (suc n)) (Listing.residues-distinct p (suc n))
-      (λ a m. Listing.residues-complete p (suc n) (backward p t1 r a) (backward-words a (Listing.residues-sound p (suc n) a m)))
-      (λ a b k m e. sym (forth-undoes-back a (Listing.residues-sound p (suc n) a k)) ∙ ap (forward p t2 s) e ∙ forth-undoes-back b (Listing.residues-sound p (suc n) b m))
-      u (Listing.residues-complete p (suc n) u wu) in
-      (v, Listing.residues-sound p (suc n) v m, e)
+  backward-onto : (u : List ℕ) → Words p (suc n) u → (v : List ℕ) × Words p (suc n) v × (backward p t1 r v ≡ u)
+  backward-onto =
+      Listing.one-to-one-onto p (suc n) (backward p t1 r) backward-words
+      (λ a b wa wb e. sym (forth-undoes-back a wa) ∙ ap (forward p t2 s) e ∙ forth-undoes-back b wb)
 
   back-undoes-forth : Undoes p (suc n) (backward p t1 r) (forward p t2 s)
   back-undoes-forth u wu =
       let (v, wv, e) = backward-onto u wu in
-      ap (backward p t1 r) (ap (forward p t2 s) e ∙ forth-undoes-back v wv) ∙ sym e
+      ap (backward p t1 r) (ap (forward p t2 s) (sym e) ∙ forth-undoes-back v wv) ∙ e
 
   forward-injective : {u v : List ℕ} → Words p (suc n) u → Words p (suc n) v → forward p t2 s u ≡ forward p t2 s v → u ≡ v
   forward-injective {u} {v} wu wv e = sym (back-undoes-forth u wu) ∙ ap (backward p t1 r) e ∙ back-undoes-forth v wv

@@ -1,12 +1,16 @@
 -- Values of polynomials modulo p in a commutative ring in which p·1 = 0. For an element s the ring is a module over the polynomials, X
--- acting as multiplication by s; f acts as multiplication by f(s), so the laws of f(s) are those of the action.
+-- acting as multiplication by s; f acts as multiplication by f(s), so the laws of f(s) are those of the action. Over a field a monic polynomial has at most as many roots as
+-- its degree says.
 --   evaluate R f s   f(s), the coefficients read as multiples of 1
 --   moduleAt s       the ring as a module, X acting as multiplication by s
 use mathlib.Core.Path.{_≡_, refl, sym, ap, ap₂, _∙_}
 use mathlib.Core.List.{List, [], _∷_, map}
-use Prim.Native.Nat.{ℕ, zero, suc}
-use lib.ListN.{length}
-use Rattle.algebra.specs.Ring.{CommutativeRing, numeral, power, value}
+use Prim.Native.Nat.{ℕ, zero, suc, _≤_}
+use lib.ListN.{length, length-map}
+use Rattle.algebra.specs.Lists.{Member, Distinct}
+use Rattle.algebra.specs.Ring.{CommutativeRing, Field, numeral, power, value}
+use Rattle.algebra.proofs.Lists.{member-all}
+use Rattle.algebra.proofs.Polynomials.{monic-roots}
 use Rattle.algebra.proofs.RingLaws.{zero-mul, one-mul, mul-one, add-mul, numeral-zero, numeral-suc}
 use Rattle.quotient.specs.Residue.{sum, scale}
 use Rattle.quotient.specs.Divisor.{Same, polynomialProduct, monic}
@@ -81,3 +85,11 @@ module _ {A : Type 0} (R : CommutativeRing A) (p : ℕ) (vanishes : numeral R p 
     pub evaluate-monic : (f : List ℕ) → evaluate R (monic f) s ≡ R .add (power R s (length f)) (evaluate R f s)
     unfolding moduleAt
     evaluate-monic f = evaluate-acts (monic f) ∙ act-monic (moduleAt s) f (R .one) ∙ ap₂ (R .add) (sym (evaluate-acts f)) (iterate-is (length f)) ∙ R .add-comm _ _
+
+pub monic-roots-at-most : {A : Type 0} (F : Field A) (p : ℕ) → numeral (F .ring) p ≡ F .ring .zero → (t : List ℕ) (rs : List A) → Distinct rs
+    → ((s : A) → Member s rs → evaluate (F .ring) (monic t) s ≡ F .ring .zero) → length rs ≤ length t
+unfolding evaluate
+monic-roots-at-most F p vanishes t rs distinct roots =
+    monic-roots F (length t) (evaluate (F .ring) t) (map (numeral (F .ring)) t, length-map t (numeral (F .ring)), λ s. refl) rs distinct
+    (member-all (λ s. F .ring .add (evaluate (F .ring) t s) (power (F .ring) s (length t)) ≡ F .ring .zero) rs
+    (λ s m. F .ring .add-comm _ _ ∙ sym (evaluate-monic (F .ring) p vanishes s t) ∙ roots s m))

@@ -2,13 +2,15 @@
 -- those of n words, each behind each of the words 0, …, p − 1.
 use mathlib.Core.Path.{_≡_, refl, sym, _∙_, ap, ap₂, subst}
 use mathlib.Core.Bool.{true}
-use mathlib.Core.List.{List, [], _∷_, map}
+use mathlib.Core.List.{List, [], _∷_, map, List-discrete}
 use mathlib.Core.Logic.{inl, inr, ⊎-elim}
 use Prim.Native.Nat.{ℕ, zero, suc, _+_, _*_, _^_}
+use native.Mathlib.Decide.{ℕ-discrete}
 use native.Mathlib.Nat.{pow-zero, pow-succ'}
 use native.Mathlib.Omega.{arith}
 use lib.ListN.{length, length-append, length-map}
 use Rattle.algebra.specs.Lists.{Member, Distinct, range}
+use Rattle.algebra.proofs.Counting.{injective-onto}
 use Rattle.algebra.proofs.Lists.{all-map, all-member, member-all, member-equal, member-append-left, member-append-right, member-append, member-map, map-member}
 use Rattle.algebra.proofs.Search.{range-length, range-bounds, range-member}
 use Rattle.array.specs.Ascending.{lower, Ascending}
@@ -88,6 +90,16 @@ pub residues-length : (p n : ℕ) → length (residues p n) ≡ p ^ n
 unfolding residues
 residues-length p zero = sym (pow-zero p)
 residues-length p (suc n) = prefixed-length (range 0 p) (residues p n) ∙ ap₂ _*_ (range-length 0 p) (residues-length p n) ∙ sym (pow-succ' p n)
+
+-- a one-to-one map of the residues into themselves is onto
+pub one-to-one-onto : (p n : ℕ) (f : List ℕ → List ℕ) → ((u : List ℕ) → Words p n u → Words p n (f u))
+    → ((u v : List ℕ) → Words p n u → Words p n v → f u ≡ f v → u ≡ v) → (v : List ℕ) → Words p n v → (u : List ℕ) × Words p n u × (f u ≡ v)
+one-to-one-onto p n f closed injective v wv =
+    let (u, m, e) = injective-onto (List-discrete ℕ-discrete) f (residues p n) (residues-distinct p n)
+    (λ a m. residues-complete p n (f a) (closed a (residues-sound p n a m)))
+    (λ a b k m e. injective a b (residues-sound p n a k) (residues-sound p n b m) e)
+    v (residues-complete p n v wv) in
+    (u, residues-sound p n u m, sym e)
 
 -- the same list with the proofs that its elements are residues
 module _ {p n : ℕ} where

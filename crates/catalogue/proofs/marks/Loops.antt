@@ -12,7 +12,7 @@ use borrow.Rule.Slice.PartMut.{putMid, postOf, same-len-mid}
 use Rattle.array.specs.Digits.{digits}
 use Rattle.array.proofs.Digits.{digits-length}
 use Rattle.catalogue.specs.Marks.{unmarked}
-use Rattle.catalogue.proofs.Flatten.{flatten-append}
+use Rattle.array.proofs.Flatten.{flatten-append}
 use Rattle.catalogue.proofs.Unmarked.{unmarkedBelow, below-zero, below-all, below-free, below-marked, below-few}
 
 -- how many

@@ -12,7 +12,7 @@ use Rattle.algebra.specs.Lists.{All, equal}
 use Rattle.algebra.specs.Prime.{Prime}
 use Rattle.algebra.specs.Search.{Decides}
 use Rattle.algebra.proofs.Lists.{all-member}
-use Rattle.algebra.proofs.Scan.{getD-member}
+use Rattle.algebra.proofs.Places.{place-member}
 use Rattle.array.specs.Array.{padded, Holds}
 use Rattle.array.proofs.Padded.{array-length, front-is, holds-is}
 use Rattle.quotient.specs.Residue.{residueOfX, HasInverse}
@@ -59,7 +59,7 @@ pub record Rest (p n : ℕ) (t numbers : List ℕ) (i : ℕ) : Type 0 where
 
 module _ (p n : ℕ) (t numbers : List ℕ) where
   pub number-positive : (i : ℕ) → All (_<_ 0) numbers → i < length numbers → 0 < getD numbers i 0
-  number-positive i h l = all-member (_<_ 0) numbers h (getD numbers i 0) (getD-member numbers i l)
+  number-positive i h l = all-member (_<_ 0) numbers h (getD numbers i 0) (place-member 0 numbers i l)
 
   pub rest-starts : Rest p n t numbers 0
   rest-starts = record { suffices = λ h. h }
@@ -69,7 +69,7 @@ module _ (p n : ℕ) (t numbers : List ℕ) where
     rest-fails e =
         record {
           if-true = λ f. absurd (false≢true f);
-          if-false = λ _ h. d .if-false (not-true b e) (all-member (Passes p n t) numbers h (getD numbers i 0) (getD-member numbers i l));
+          if-false = λ _ h. d .if-false (not-true b e) (all-member (Passes p n t) numbers h (getD numbers i 0) (place-member 0 numbers i l));
         }
 
     pub rest-next : not b ≡ false → Rest p n t numbers i → Rest p n t numbers (i + 1)

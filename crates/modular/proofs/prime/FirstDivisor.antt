@@ -13,7 +13,7 @@ use lib.Seq.{drop-cons}
 use borrow.Author.Tests.{eq-eqb, ne-eqb, eqb-true, eqb-false, ltb-true}
 use Rattle.algebra.specs.Lists.{Member, all, first}
 use Rattle.algebra.proofs.Search.{member-of-all, first-pass, first-fail}
-use Rattle.algebra.proofs.Scan.{getD-member}
+use Rattle.algebra.proofs.Places.{place-member}
 use Rattle.modular.specs.Prime.{firstDivisor}
 
 abbrev divides : ℕ → ℕ → Bool
@@ -25,7 +25,7 @@ None p numbers = (q : ℕ) → Member q numbers → p % q ≡ 0 → ⊥
 -- before turn i the numbers from i on decide
 module _ (p : ℕ) (numbers : List ℕ) (i : ℕ) where
   pub number-positive : all (ltb 0) numbers ≡ true → i < length numbers → 0 < getD numbers i 0
-  number-positive h l = ltb-true 0 (getD numbers i 0) (member-of-all (ltb 0) numbers h (getD numbers i 0) (getD-member numbers i l))
+  number-positive h l = ltb-true 0 (getD numbers i 0) (member-of-all (ltb 0) numbers h (getD numbers i 0) (place-member 0 numbers i l))
 
   module _ (e : firstDivisor p numbers ≡ firstDivisor p (drop i numbers)) where
     from-here : i < length numbers → firstDivisor p numbers ≡ first (divides p) p (getD numbers i 0 ∷ drop (i + 1) numbers)
