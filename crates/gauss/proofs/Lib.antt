@@ -1,6 +1,6 @@
 -- The proof of Gauss's formula.
-mod Factors
-mod PowerMinusX
+pub mod Factors
+pub mod PowerMinusX
 mod SquareFree
 mod DegreeSum
 mod ModelList

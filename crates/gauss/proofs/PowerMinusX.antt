@@ -4,12 +4,13 @@
 use mathlib.Core.Path.{_≡_, sym, ap, ap₂, _∙_}
 use mathlib.Core.List.{List, _∷_}
 use Prim.Native.Nat.{ℕ, suc, _*_, _-_, _/_, _%_, _^_, _≤_}
-use native.Mathlib.Nat.{div-add-mod}
+use native.Mathlib.Nat.{div-add-mod, pow-zero}
 use native.Mathlib.Omega.{arith}
 use lib.ListN.{replicate}
 use Rattle.algebra.specs.Prime.{Prime}
 use Rattle.algebra.specs.Ring.{CommutativeRing, numeral, power}
 use Rattle.algebra.proofs.Period.{period-multiple, period-divides}
+use Rattle.algebra.proofs.PrimePowers.{power-doubles}
 use Rattle.algebra.proofs.RingLaws.{add-comm, add-left-cancel, add-zero, zero-add, mul-add, mul-one, mul-zero, numeral-suc, numeral-zero}
 use Rattle.array.specs.Words.{Words, more}
 use Rattle.array.proofs.Words.{words-length, zeros-words}
@@ -25,6 +26,10 @@ use Rattle.irreducible.proofs.PeriodOfX.{no-lower-period}
 
 pub powerMinusX : ℕ → ℕ → List ℕ
 powerMinusX p k = 0 ∷ (p - 1) ∷ replicate k 0
+
+-- p^(n + 1) is at least 2
+pub size-is : (p n : ℕ) → 2 ≤ p → suc (suc (p ^ suc n - 2)) ≡ p ^ suc n
+size-is p n big = omega (arith, power-doubles p 0 n big (omega arith), pow-zero p)
 
 pub power-minus-x-words : {p : ℕ} → 2 ≤ p → (k : ℕ) → Words p (suc (suc k)) (powerMinusX p k)
 unfolding powerMinusX
@@ -43,7 +48,7 @@ module _ {A : Type 0} (R : CommutativeRing A) {p : ℕ} (big : 2 ≤ p) (vanishe
   value-is =
       evaluate-monic R p vanishes s (powerMinusX p k) ∙ ap (λ i. R .add (power R s i) (evaluate R (powerMinusX p k) s)) (words-length (power-minus-x-words big k))
 
-  fixed-root : power R s (suc (suc k)) ≡ s → evaluate R (monic (powerMinusX p k)) s ≡ R .zero
+  pub fixed-root : power R s (suc (suc k)) ≡ s → evaluate R (monic (powerMinusX p k)) s ≡ R .zero
   fixed-root e = value-is ∙ ap (λ y. R .add y (evaluate R (powerMinusX p k) s)) e ∙ lower-words
 
   root-fixed : evaluate R (monic (powerMinusX p k)) s ≡ R .zero → power R s (suc (suc k)) ≡ s

@@ -2,13 +2,12 @@
 use mathlib.Core.Path.{_≡_, sym, subst, _∙_}
 use mathlib.Core.List.{List}
 use Prim.Native.Nat.{ℕ, zero, suc, _-_, _%_, _^_, _≤_}
-use native.Mathlib.Nat.{dvd-of-mod-eq-zero, le-of-dvd, pow-zero}
+use native.Mathlib.Nat.{dvd-of-mod-eq-zero, le-of-dvd}
 use native.Mathlib.Omega.{arith}
 use borrow.Author.Tests.{eqb-true, eq-eqb}
 use lib.Dec.{eqb}
 use Rattle.algebra.specs.Lists.{Member, Distinct, range}
 use Rattle.algebra.specs.Prime.{Prime}
-use Rattle.algebra.proofs.PrimePowers.{power-doubles}
 use Rattle.algebra.proofs.Search.{filter-member, member-filter, range-bounds, range-distinct, range-member}
 use Rattle.array.specs.Words.{Words}
 use Rattle.quotient.specs.Divisor.{HasDivisor}
@@ -17,7 +16,7 @@ use Rattle.catalogue.proofs.Theorem.{every-model}
 use Rattle.gauss.specs.Gauss.{divisors, GaussFormula}
 use Rattle.gauss.proofs.DegreeSum.{Factor, AllFactors, degree-is-sum}
 use Rattle.gauss.proofs.ModelList.{distinct-filter, listOf, list-degrees, list-distinct, list-member, member-list}
-use Rattle.gauss.proofs.PowerMinusX.{powerMinusX, power-minus-x-words, degree-divides, divides-degree}
+use Rattle.gauss.proofs.PowerMinusX.{powerMinusX, size-is, power-minus-x-words, degree-divides, divides-degree}
 
 -- the divisors of n + 1
 module _ (n : ℕ) where
@@ -37,12 +36,11 @@ module _ (n : ℕ) where
       member-filter (λ m. eqb (suc n % m) 0) (range 1 (suc n)) m (range-member 1 (suc n) m low (omega arith)) (eq-eqb (suc n % m) 0 h)
 
 module _ {p : ℕ} (prime : Prime p) (n : ℕ) where
-  -- p^(n + 1) is at least 2
   abbrev k : ℕ
   k = p ^ suc n - 2
 
   size : suc (suc k) ≡ p ^ suc n
-  size = omega (arith, power-doubles p 0 n (prime .0) (omega arith), pow-zero p)
+  size = size-is p n (prime .0)
 
   model-divides : (d : List ℕ) → Member d (listOf p (divisors (suc n))) → Factor p (powerMinusX p k) d
   model-divides d l =

@@ -10,6 +10,7 @@ use Rattle.finder.proofs.Rounds as Rounds
 use Rattle.finder.proofs.Triangle as Triangle
 use Rattle.gauss.proofs.Theorem as Gauss
 use Rattle.irreducible.proofs.Theorem as Irreducible
+use Rattle.isomorphisms.proofs.Theorem as Isomorphisms
 use Rattle.ledger.proofs.Theorem as Ledger
 use Rattle.maps.proofs.Theorem as Maps
 use Rattle.modular.proofs.IsPrime as Modular
@@ -109,6 +110,10 @@ promises =
       finder-takes-listed = ListedModels.finder-takes-listed;
       catalogue-examples = CatalogueExamples.catalogue-examples;
       gauss-formula = Gauss.gauss-formula;
+      every-isomorphism = Isomorphisms.every-isomorphism;
+      every-isomorphism-listed = Isomorphisms.every-isomorphism-listed;
+      pair-exists = Isomorphisms.pair-exists;
+      preserving-is-enough = Isomorphisms.preserving-is-enough;
       values-follow = Values.values-follow;
       examples = Examples.examples;
     }

@@ -17,6 +17,7 @@ use Rattle.finder.specs.Stored.{EveryScalingAccepted}
 use Rattle.finder.specs.Theorem.{Demand3Theorem}
 use Rattle.finder.specs.Triangle.{TriangleTheorem}
 use Rattle.gauss.specs.Gauss.{GaussFormula}
+use Rattle.isomorphisms.specs.Theorem.{EveryIsomorphism, EveryIsomorphismListed, PairExists, PreservingIsEnough}
 use Rattle.modular.specs.Prime.{PrimeTestIsExact}
 use Rattle.irreducible.specs.Irreducible.{IrreducibleTheorem}
 use Rattle.irreducible.specs.Rabin.{RabinsCriterion}
@@ -151,6 +152,13 @@ pub record Promises : Type 0 where
   pub finder-takes-listed : FinderTakesListed
   pub catalogue-examples : CatalogueExamples
   pub gauss-formula : GaussFormula
+  -- Nothing outside the catalogue of pairs, request S-13 (isomorphisms/specs/Theorem.antt): between two models without proper divisors every one-to-one and onto map that preserves
+  -- sums, products and one is the forward map of an accepted pair, and of one pair only; it is that of exactly one entry of the list of all maps, so there are exactly n; there always
+  -- is an accepted pair; and, a remark, one-to-one and onto follow from the rest
+  pub every-isomorphism : EveryIsomorphism
+  pub every-isomorphism-listed : EveryIsomorphismListed
+  pub pair-exists : PairExists
+  pub preserving-is-enough : PreservingIsEnough
   -- Over C (runs/specs/OverC.antt): every list of calls makes of a new value one that is taken for the session that it makes of a new session
   pub values-follow : ValuesFollow
   -- Small fields by hand, A to I (specs/Examples.antt)

@@ -1,0 +1,2 @@
+-- Nothing outside the catalogue of pairs.
+pub mod Theorem
