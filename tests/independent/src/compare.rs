@@ -5,6 +5,7 @@ mod case;
 pub mod catalogue;
 pub mod differences;
 pub mod earlier;
+pub mod isomorphisms;
 mod known;
 pub mod limits;
 pub mod maps;
@@ -24,7 +25,7 @@ use std::collections::BTreeMap;
 use std::fmt::Debug;
 
 /// The numbers that a call can give. Each must have occurred with it.
-const NUMBERS: [(&str, &[u32]); 38] = [
+const NUMBERS: [(&str, &[u32]); 40] = [
     ("every_p", &[1, 2]),
     ("product", &[0, 1, 2, 3, 4]),
     ("power", &[0, 1, 2, 3, 4]),
@@ -34,6 +35,8 @@ const NUMBERS: [(&str, &[u32]); 38] = [
     ("catalogue_list", &[0, 1, 2, 29, 3]),
     ("check", &[0, 1, 2, 3, 4, 6, 7, 8]),
     ("maps", &[0, 1, 2, 3, 4, 6, 7, 8]),
+    ("isomorphisms", &[0]),
+    ("isomorphisms_listed", &[0]),
     ("matrices", &[0, 1, 2, 3, 4, 6, 7, 8]),
     ("matrix_convert", &[0, 1, 2, 3, 9, 10, 4]),
     ("matrix_as_session", &[0]),

@@ -1,9 +1,9 @@
 //! Document 01, and of document 02 the requests that have landed, in plain Rust: what the calls must answer, written from the documents and by other
 //! methods than the proved code's. Polynomials are multiplied out and divided with remainder; divisors are found by trial division, or by greatest
-//! common divisors where there are too many to try; the finder's values come from sums over conjugates (Lagrange resolvents, Hilbert's Theorem 90
-//! for sums), without solving linear systems; all maps of a pair are found by trying every residue, or are powers of S, sorted; each column of a
-//! matrix is a power by itself; tables are restored from differences by sums that do not wrap; the catalogue is counted by Gauss's formula, and each
-//! polynomial is tested by itself; cards are strings of bits.
+//! common divisors where there are too many to try; the finder's values come from sums over conjugates (Lagrange resolvents, Hilbert's Theorem 90 for
+//! sums), without solving linear systems; all maps of a pair are found by trying every residue, or are powers of S, sorted; isomorphisms are found by
+//! a search for tables of values; each column of a matrix is a power by itself; tables are restored from differences by sums that do not wrap; the
+//! catalogue is counted by Gauss's formula, and each polynomial is tested by itself; cards are strings of bits.
 
 pub mod card;
 pub mod catalogue;
@@ -13,6 +13,7 @@ pub mod earlier;
 pub mod eigenvector;
 pub mod finder;
 pub mod held;
+pub mod isomorphisms;
 mod kept;
 pub mod maps;
 pub mod matrix;

@@ -13,12 +13,13 @@ use std::thread;
 type Part = fn(u64, &mut Tally);
 
 /// Each part, and how many inputs it draws; none waits for another, so that all processors have work.
-const PARTS: [(Part, u64); 15] = [
+const PARTS: [(Part, u64); 16] = [
     (compare::residues::run, 12_000),
     (compare::moduli::run, 6_000),
     (compare::catalogue::run, 2_000),
     (compare::pairs::run, 12_000),
     (compare::maps::run, 1_000),
+    (compare::isomorphisms::run, 1),
     (compare::matrices::run, 1_000),
     (compare::differences::run, 2_000),
     (compare::sheets::run, 1_000),
