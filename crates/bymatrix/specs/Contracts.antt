@@ -1,4 +1,4 @@
--- The words of the contracts between this crate's functions; no public call's contract rests on them.
+-- The definitions of the contracts between this crate's functions; no public call's contract rests on them.
 --   Loaded n matrix m                      the array m has 256 words, in its first n rows and columns those of the matrix, and zeros in its further columns
 --   Accepted p n t1 t2 s r forward back    what the number 0 leaves: the lists are a pair for two models, and both output lists have n·n words
 use mathlib.Core.Path.{_≡_}

@@ -1,4 +1,4 @@
-// What the sieve left unmarked: the codes size to 2·size − 1, size = p^n, are those of the polynomials of degree n.
+// What the sieve left unmarked: the marks size to 2·size − 1, size = p^n, are those of the polynomials of degree n.
 ghost use mathlib.Core.Path.{_≡_};
 ghost use mathlib.Core.List.{map, flatten};
 ghost use Prim.Native.Nat.{_*_, _≤_};

@@ -1,4 +1,4 @@
--- The word of the contracts between this crate's functions; no public call's contract rests on it.
+-- The definition of the contracts between this crate's functions; no public call's contract rests on it.
 --   Begun k xs w    w has as many words as xs, and the first k of them are those of xs
 use mathlib.Core.Path.{_≡_}
 use mathlib.Core.List.{List}

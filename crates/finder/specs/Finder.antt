@@ -1,5 +1,5 @@
 -- The finder's values (document 01, "The finder", with the normalisation of document 02, S-6, and the second method of S-7), each by search over what its sentence ranges
--- over, in the order of the documents. Those that no other name is made of stand in Roots.antt of the crate roots (zeta, radicand) and in Eigenvector.antt, Tower.antt and
+-- over, in the order of the documents. Those that are made of no other of these stand in Roots.antt of the crate roots (zeta, radicand) and in Eigenvector.antt, Tower.antt and
 -- Express.antt of galois.
 --   zeta p n            the smallest integer from 1 to p − 1 with ζ^n = 1 mod p and no ζ^m = 1 for 1 ≤ m < n
 --   radicand p n z      a, the smallest integer from 1 to p − 1 with a^((p − 1)/n) = ζ mod p
@@ -15,6 +15,7 @@
 --   refuseFind p n t1 t2    what comes after 4 for the finder: 5 where n is not findable, 6 and 7 where T1 and T2 have a monic divisor of
 --                           degree 1 to n − 1; 0 otherwise
 --   findNumber …            the finder's answer: 1 to 4, then these, or 0 where it returns the pair
+--   findOutputS …, findOutputR …   what the lists lent for S and R hold after the call
 use mathlib.Core.Path.{_≡_}
 use mathlib.Core.Bool.{Bool, true, false, not, _||_}
 use mathlib.Core.List.{List, [], _∷_}

@@ -1,4 +1,4 @@
--- Demand 3, whole. Read this file first; Finder.antt beside it has the finder's values, Theorem.antt of the crate pair the checker's half,
+-- Demand 3, whole. Of this crate read this file first; Finder.antt beside it has the finder's values, Theorem.antt of the crate pair the checker's half,
 -- Residue.antt, Map.antt and Divisor.antt of the crate quotient the residues, the maps and the divisors, and Prime.antt of the crate
 -- algebra the primes.
 -- For every prime p up to 1,048,575, every n from 1 to 16 and all monic T1 and T2 of degree n:

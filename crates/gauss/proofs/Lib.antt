@@ -1,4 +1,4 @@
--- The proof of Gauss's formula.
+-- The polynomial X^(p^n) − X, its divisors, and the proof of Gauss's formula.
 pub mod Factors
 pub mod PowerMinusX
 mod SquareFree

@@ -1,7 +1,7 @@
--- Gauss's formula: m times the number of models of degree m, summed over the divisors m of n, is p^n. It counts the models of a size without a search; no call
+-- Gauss's formula: m times the number of models of degree m without proper divisors, summed over the divisors m of n, is p^n. It counts the models of a size without a search; no call
 -- rests on it.
 --   divisors n       the numbers from 1 to n that divide n
---   degreesOf p ms   the sum of m·N(m) over the m of ms, where N(m) is the number of models of degree m modulo p
+--   degreesOf p ms   the sum of m·N(m) over the m of ms, where N(m) is the number of `models` of degree m modulo p
 --   GaussFormula     for every prime p and every n ≥ 1 that sum over the divisors of n is p^n
 use mathlib.Core.Path.{_≡_}
 use mathlib.Core.List.{List, [], _∷_}

@@ -3,7 +3,7 @@
 --   Reduced p n c m b            the same of the system M·v = b; its words are below p, and b is 0 past n
 --   SolvesTimes p n m t b v      M·v = t·b modulo p; the system itself is t = 1, and t = 0 is M·v = 0
 --   Equivalent p n m b m' b'     M·v = t·b and M'·v = t·b' have the same solutions, for every t
---   RowStep p n c x w m b m' b'  a row operation on row x: in column c the word of that row is now w, and no other has changed
+--   RowStep p n c x w m b m' b'  a row operation on row x: in column c the word of that row is now w, and no other word of that column has changed
 --   Advanced p n c m b m' b'     an equivalent system whose first c columns are those of the identity
 --   Prepared p n c m b m' b'     the same, and the word in row c and column c is not 0
 --   Pivot n c m r                r is the first row from row c on whose word in column c is not 0, or n where there is none

@@ -1,4 +1,4 @@
--- The checker's half of demand 3: what the answer 0 of `check` means. Read this file first; every name in it is explained here, in Pair.antt
+-- The checker's half of demand 3: what the answer 0 of `check` means. Of this crate read this file first; every name in it is explained here, in Pair.antt
 -- beside it, in Residue.antt, Map.antt and Divisor.antt of the crate quotient, in Words.antt of the crate array, in Models.antt of the crate refusal, or in
 -- Prime.antt of the crate algebra. For every p, n and all lists: the answer is 0 exactly when p is a prime up to 1,048,575, n is 1 to 16, the four lists are n words below p, neither
 -- modulus has a monic divisor of degree 1 to n − 1 and the four congruences hold; and then every residue but 0 has an inverse on both sides, the two maps

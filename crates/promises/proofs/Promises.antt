@@ -24,17 +24,17 @@ use Rattle.sheet.proofs.Theorem as Sheet
 use Rattle.text.proofs.Theorem as Text
 use Rattle.text.proofs.ColumnDetermines as Columns
 use Rattle.promises.specs.Promises.{Promises}
-use Rattle.promises.proofs.CardExamples as CardExamples
-use Rattle.promises.proofs.CatalogueExamples as CatalogueExamples
-use Rattle.promises.proofs.DifferencesExamples as DifferencesExamples
-use Rattle.promises.proofs.Examples as Examples
-use Rattle.promises.proofs.LedgerExamples as LedgerExamples
+use Rattle.examples.proofs.CardExamples as CardExamples
+use Rattle.examples.proofs.CatalogueExamples as CatalogueExamples
+use Rattle.examples.proofs.DifferencesExamples as DifferencesExamples
+use Rattle.examples.proofs.Examples as Examples
+use Rattle.examples.proofs.LedgerExamples as LedgerExamples
 use Rattle.promises.proofs.ListedModels as ListedModels
-use Rattle.promises.proofs.MapsExamples as MapsExamples
-use Rattle.promises.proofs.MatrixExamples as MatrixExamples
-use Rattle.promises.proofs.OpenTableExamples as OpenTableExamples
-use Rattle.promises.proofs.TowerExamples as TowerExamples
-use Rattle.promises.proofs.SheetExamples as SheetExamples
+use Rattle.examples.proofs.MapsExamples as MapsExamples
+use Rattle.examples.proofs.MatrixExamples as MatrixExamples
+use Rattle.examples.proofs.OpenTableExamples as OpenTableExamples
+use Rattle.examples.proofs.TowerExamples as TowerExamples
+use Rattle.examples.proofs.SheetExamples as SheetExamples
 
 pub promises : Promises
 promises =

@@ -1,13 +1,3 @@
--- All that is promised, the examples of document 01, wide cards, two sheets, two reports, the maps of one pair, the matrices of two, tables as differences, the models of some sizes, two towers and a table in parts; and what the finder makes of listed models.
+-- All that is promised, and what the finder makes of listed models.
 pub mod Promises
-pub mod Examples
-pub mod CardExamples
-pub mod SheetExamples
-pub mod LedgerExamples
-pub mod MapsExamples
-pub mod MatrixExamples
-pub mod DifferencesExamples
-pub mod CatalogueExamples
 pub mod ListedModels
-pub mod TowerExamples
-pub mod OpenTableExamples

@@ -1,4 +1,4 @@
--- The models of the catalogue and the other calls (request S-12): each is one that the finder takes.
+-- The models of the catalogue and the other calls (request S-12): the finder refuses none of them with 6 or 7.
 --   ListedIsIrreducible   for a size that the catalogue takes, a list is listed exactly when the call for one modulus gives 0
 --   FinderTakesListed     a listed model is never refused by the finder with 6 as T1, nor with 7 as T2, whatever the other lists are; and of two listed models it returns a pair
 --                         where n divides p − 1 or is p^k with k ≥ 1

@@ -1,4 +1,5 @@
--- All that is promised, in the order of the three demands: read this file first. Each promise is a statement of the crate that it belongs to,
+-- All that is promised: first the three demands (1: what every list of calls makes of a session; 2: what is accepted and converted; 3: the finder), then the requests.
+-- Read this file first. Each promise is a statement of the crate that it belongs to,
 -- for all p, n and lists; the file named beside it has the statement and explains its words. proofs/Promises.antt has one value of this
 -- record, so that no promise is without a proof.
 --
@@ -31,17 +32,17 @@ use Rattle.runs.specs.OpenTable.{PartByPart, TableKeepsPair, EndCloses, ClearDr
 use Rattle.runs.specs.Theorem.{EveryRun, RefusalsChangeNothing, GroupByGroup, BackAgain, ConversionAddsRecord, OthersKeepLedger}
 use Rattle.sheet.specs.Theorem.{SheetHasLength, SheetDetermines}
 use Rattle.text.specs.Theorem.{DecimalIsDecimal, ColumnDetermines}
-use Rattle.promises.specs.CardExamples.{CardExamples}
-use Rattle.promises.specs.CatalogueExamples.{CatalogueExamples}
-use Rattle.promises.specs.DifferencesExamples.{DifferencesExamples}
-use Rattle.promises.specs.Examples.{Examples}
-use Rattle.promises.specs.LedgerExamples.{LedgerExamples}
+use Rattle.examples.specs.CardExamples.{CardExamples}
+use Rattle.examples.specs.CatalogueExamples.{CatalogueExamples}
+use Rattle.examples.specs.DifferencesExamples.{DifferencesExamples}
+use Rattle.examples.specs.Examples.{Examples}
+use Rattle.examples.specs.LedgerExamples.{LedgerExamples}
 use Rattle.promises.specs.ListedModels.{ListedIsIrreducible, FinderTakesListed}
-use Rattle.promises.specs.MapsExamples.{MapsExamples}
-use Rattle.promises.specs.MatrixExamples.{MatrixExamples}
-use Rattle.promises.specs.OpenTableExamples.{OpenTableExamples}
-use Rattle.promises.specs.SheetExamples.{SheetExamples}
-use Rattle.promises.specs.TowerExamples.{TowerExamples}
+use Rattle.examples.specs.MapsExamples.{MapsExamples}
+use Rattle.examples.specs.MatrixExamples.{MatrixExamples}
+use Rattle.examples.specs.OpenTableExamples.{OpenTableExamples}
+use Rattle.examples.specs.SheetExamples.{SheetExamples}
+use Rattle.examples.specs.TowerExamples.{TowerExamples}
 
 pub record Promises : Type 0 where
   -- Demand 1 (runs/specs/Theorem.antt, pairing/specs/Theorem.antt): every list of calls makes of a new session one that is new, loaded or paired with an accepted pair,
@@ -69,13 +70,14 @@ pub record Promises : Type 0 where
   pub divisor-test-is-exact : DivisorTestIsExact
   -- Demand 3, whole (finder/specs/Theorem.antt)
   pub demand-3 : Demand3Theorem
-  -- Round the triangle, request S-6 (finder/specs/Scalings.antt, Triangle.antt, Stored.antt): a model without proper divisors has n scalings; for every three models without proper divisors the found map from the first to the second followed by
+  -- Round the triangle, request S-6 (finder/specs/Scalings.antt, Triangle.antt, Stored.antt): where n divides p − 1, a model without proper divisors has n scalings; where n divides p − 1 or is a
+  -- power of p, for every three models without proper divisors the found map from the first to the second followed by
   -- that from the second to the third is the found map from the first to the third, forward and back; every other scaling's pair, so that of every stored card, is accepted too
   pub scalings-are-counted : ScalingsAreCounted
   pub triangle : TriangleTheorem
   pub every-scaling-accepted : EveryScalingAccepted
   -- Degrees that are powers of p, request S-7 (finder/specs/Rounds.antt): demand 3 and the triangle above hold for them too; besides, a modulus of degree n = p^k has no proper divisor exactly
-  -- when k rounds of Algorithm 4.1 have their solutions, and these are determined; two examples computed (specs/TowerExamples.antt)
+  -- when k rounds of Algorithm 4.1 have their solutions, and these are determined; two towers and a refused square computed (examples/specs/TowerExamples.antt)
   pub rounds-decide : RoundsDecide
   pub one-tower : OneTower
   pub tower-examples : TowerExamples
@@ -91,7 +93,7 @@ pub record Promises : Type 0 where
   pub congruences-suffice : CongruencesTheorem
   pub divisors-together : DivisorsTogether
   -- Cards, and wide cards, request S-9 (card/specs/Theorem.antt): what is written reads back, what is read is written so, no two cards mean the same, the longest has 166
-  -- bytes, and up to 65,535 a card has the bytes that it had before the request; wide cards computed (specs/CardExamples.antt)
+  -- bytes, and up to 65,535 a card has the bytes that it had before the request; wide cards computed (examples/specs/CardExamples.antt)
   pub written-reads-back : WrittenReadsBack
   pub read-is-written : ReadIsWritten
   pub one-meaning : OneMeaning
@@ -103,13 +105,13 @@ pub record Promises : Type 0 where
   pub column-determines : ColumnDetermines
   pub long-input : LongInput
   -- The printed sheet, request S-1 (sheet/specs/Theorem.antt): its length, and that it determines the four lists; two sheets computed
-  -- (specs/SheetExamples.antt)
+  -- (examples/specs/SheetExamples.antt)
   pub sheet-has-length : SheetHasLength
   pub sheet-determines : SheetDetermines
   pub sheet-examples : SheetExamples
   -- The ledger of conversions, requests S-2 and S-8 (runs/specs/OpenTable.antt, Theorem.antt, ledger/specs/Theorem.antt): each total is the number of residues that the successful
   -- conversions and the feeds of ended tables of its direction had, for every list of calls; a conversion adds one record and changes nothing else; all calls but conversions and end
-  -- keep the ledger; a record that is added stands behind the others; the report determines the records; reports computed (specs/LedgerExamples.antt)
+  -- keep the ledger; a record that is added stands behind the others; the report determines the records; reports computed (examples/specs/LedgerExamples.antt)
   pub totals-count : TotalsCount
   pub conversion-adds-record : ConversionAddsRecord
   pub others-keep-ledger : OthersKeepLedger
@@ -117,13 +119,13 @@ pub record Promises : Type 0 where
   pub report-determines : ReportDetermines
   pub ledger-examples : LedgerExamples
   -- All the maps, request S-5 (maps/specs/Theorem.antt): from an accepted pair, the list of all S' with T1(S') = 0 modulo T2 has exactly n of them, in ascending order, each the S
-  -- of an accepted pair, and no accepted pair has another S; they are the conjugates of its S; those of example A computed (specs/MapsExamples.antt)
+  -- of an accepted pair, and no accepted pair has another S; they are the conjugates of its S; those of example A computed (examples/specs/MapsExamples.antt)
   pub every-map : MapsTheorem
   pub maps-are-conjugates : MapsAreConjugates
   pub maps-examples : MapsExamples
   -- The next pair while a table is running, request S-8 (runs/specs/OpenTable.antt): a feed writes the images of its part, group by group; for every list of calls from a new session, an open table keeps the pair it began with until end or clear;
   -- end closes it with one record of all its residues, and a paired waiting session becomes the current one; clear drops both; a table in two parts computed
-  -- (specs/OpenTableExamples.antt)
+  -- (examples/specs/OpenTableExamples.antt)
   pub part-by-part : PartByPart
   pub table-keeps-pair : TableKeepsPair
   pub end-closes : EndCloses
@@ -131,21 +133,21 @@ pub record Promises : Type 0 where
   pub open-table-examples : OpenTableExamples
   -- Conversion by matrix, request S-10 (bymatrix/specs/Theorem.antt): column j of the matrix is S^j; for every accepted pair and all lists, matrix and substitution give equal
   -- numbers and equal lists, forward and back; by any matrix the k-th group of the image is the matrix times the k-th group; the two matrices multiply to the identity
-  -- both ways; those of A and B computed (specs/MatrixExamples.antt)
+  -- both ways; those of A and B computed (examples/specs/MatrixExamples.antt)
   pub matrix-columns : MatrixColumns
   pub matrix-is-substitution : MatrixIsSubstitution
   pub every-matrix : EveryMatrix
   pub matrices-are-inverse : MatricesAreInverse
   pub matrix-examples : MatrixExamples
   -- Tables stored as differences, request S-11 (differences/specs/Theorem.antt): what each word of a stored table is, and of a restored one; every list of 32-bit words whose length
-  -- is allowed comes back, restored from its differences and stored after it was restored; tables computed (specs/DifferencesExamples.antt)
+  -- is allowed comes back, restored from its differences and stored after it was restored; tables computed (examples/specs/DifferencesExamples.antt)
   pub each-difference : EachDifference
   pub each-restored : EachRestored
   pub every-table-comes-back : EveryTableComesBack
   pub differences-examples : DifferencesExamples
   -- Every model of a size, request S-12 (catalogue/specs/Theorem.antt, specs/ListedModels.antt): the list has every monic polynomial of degree n without a monic divisor of degree 1 to n − 1,
   -- in ascending order, none twice, and nothing else; the count is its length; what it has are the moduli that the call for one modulus takes, and the finder refuses none of them with 6
-  -- or 7; models computed (specs/CatalogueExamples.antt). For teaching (gauss/specs/Gauss.antt): Gauss's formula for their number
+  -- or 7; models computed (examples/specs/CatalogueExamples.antt). For teaching (gauss/specs/Gauss.antt): Gauss's formula for their number
   pub every-model : EveryModel
   pub count-is-listed : CountIsListed
   pub listed-is-irreducible : ListedIsIrreducible
@@ -161,5 +163,5 @@ pub record Promises : Type 0 where
   pub preserving-is-enough : PreservingIsEnough
   -- Over C (runs/specs/OverC.antt): every list of calls makes of a new value one that is taken for the session that it makes of a new session
   pub values-follow : ValuesFollow
-  -- Small fields by hand, A to I (specs/Examples.antt)
+  -- Small fields by hand, A to I (examples/specs/Examples.antt)
   pub examples : Examples

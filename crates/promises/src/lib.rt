@@ -1,1 +1,1 @@
-// All that is promised, each statement with its proof, and the examples A to I of document 01. Statements and proofs; no code.
+// All that is promised, each statement with its proof. Statements and proofs; no code.

@@ -7,7 +7,7 @@
 --   joinedWords n i e o       the n words e[i + j] + o[i + j − 1] for j from 0 on
 --   joined n i e o            the array that holds these words
 --   Added i c q v t k z z′    z′ is z with c·v + q·t added to the k words from word i on
---   Half p n k i z            the array z has words of at most 3·k·p² up to word i + n, and zeros below word i
+--   Half p n k i z            the array z has words of at most 3·k·p² below word i + n, and zeros below word i
 --   Halves p n k i s e o      two such arrays, with 3·(k + 1)·p², whose joined words are s modulo p, each at most 3·k·p²
 use mathlib.Core.Path.{_≡_}
 use mathlib.Core.Bool.{Bool, true, false}

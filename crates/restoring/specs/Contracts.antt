@@ -1,4 +1,4 @@
--- The words of the contracts between the functions that restore a table; no public call's contract rests on them.
+-- The definitions of the contracts between the functions that restore a table; no public call's contract rests on them.
 --   Whole n table out         n is 1 to 16, the table has at most 16,384 words, in whole groups of n, and out has its length
 --   width n                   how many columns are restored at a time: 8 where n is at least 8, 4 where it is at least 4, else 1
 --   added k table sums        each sum c plus word k + c of the table, wrapped at 32 bits

@@ -1,2 +1,2 @@
--- The words of the contracts between the functions that restore a table.
+-- The definitions of the contracts between the functions that restore a table.
 pub mod Contracts

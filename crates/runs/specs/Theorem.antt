@@ -4,7 +4,7 @@
 --   Reached h (of pairing)      h is new, or loaded with models that 1, 2 and 4 do not refuse, or paired, and the checker accepts its pair
 --   Around t h k w              where no table is open nothing waits; an open table t stands over a pair h and k records that leave room for its own, and w is
 --                               reached
---   EveryRun                    every list of calls makes of a new session one that holds such a value, with up to 512 records, around whose table it is so
+--   EveryRun                    every list of calls makes of a new session one that holds such a value, with up to 512 records, for which Around holds
 --   RefusalChangesNothing x     a refused call gives back x, and a lent list holds what it held; a report gives back x, refused or not
 --   RefusalsChangeNothing       that of every x
 --   Arrays h (of held)          the arrays of h have as many words as their type says

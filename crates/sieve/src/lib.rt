@@ -1,6 +1,6 @@
 // The monic polynomials of degree n modulo p that have a monic divisor of degree 1 to n − 1, marked by a sieve: the multiples of those of degree up to n/2 that have none
-// are struck out. A polynomial is a number, its code: its words are the digits in base p, the constant the lowest and the leading 1 the highest, so that the codes of degree m go
-// from p^m to 2·p^m − 1, in the order of the polynomials.
+// are struck out. The code of a polynomial is the number whose digits in base p are its words without the leading 1, the constant the lowest, so that codes are in the order of the
+// polynomials; the mark of the one of degree m with the code c is mark p^m + c.
 //   sieve       the marks
 //   strike      the multiples of one polynomial
 //   lows        the lower words of these multiples, as numbers, by their higher words

@@ -43,7 +43,7 @@ fn load_digits(p: u32, c: u32, words: &mut [Word]) -> [u64; 16]
     load(words)
 }
 
-// The lower words of the polynomial of degree n with the code p^n + c.
+// The lower words of the polynomial of degree n with the code c.
 fn lower_words(p: u32, n: usize, c: u32) -> [u64; 16]
     requires { ⌜ (1 ≤ p) × (n ≤ 16) ⌝ }
     ensures { λ t. ⌜ t ≡ padded (digits p n c) ⌝ }
@@ -52,7 +52,7 @@ fn lower_words(p: u32, n: usize, c: u32) -> [u64; 16]
     load_digits(p, c, &mut words[..n])
 }
 
-// Marks the multiples of degree m of the polynomial of degree n with the code p^n + c. The arrays xs and codes are lent.
+// Marks the multiples of degree m of the polynomial of degree n with the code c. The arrays xs and codes are lent.
 pub fn strike_multiples(
     p: u32,
     n: usize,

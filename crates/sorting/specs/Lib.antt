@@ -1,2 +1,2 @@
--- Sorting by insertion: the words of its contracts.
+-- Sorting by insertion: the definitions of its contracts.
 pub mod Sorting

@@ -1,4 +1,4 @@
--- Sorting by insertion. Only contracts between our functions rest on its words, none of a public call.
+-- Sorting by insertion. Only contracts between our functions rest on it, none of a public call.
 --   earlier u v     the lower of two lists
 --   later u v       the other
 --   insert u us     us with u inserted: each list keeps the lower of itself and what is carried to it

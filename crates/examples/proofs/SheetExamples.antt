@@ -12,7 +12,7 @@ use Rattle.text.specs.Ascii.{ascii}
 use Rattle.text.specs.Digits.{decimal, lastDigits}
 use Rattle.text.specs.Columns.{blanks, signedDecimal, rightJustified, filled}
 use Rattle.sheet.specs.Sheet.{centred, columns, line, lines, polynomial, sheetText, sheetLength, sheetNumber, sheetOutput}
-use Rattle.promises.specs.SheetExamples.{SheetExamples}
+use Rattle.examples.specs.SheetExamples.{SheetExamples}
 
 pub sheet-examples : SheetExamples
 unfolding hasDivisor dividesTest residues prefixed all equal first range isPrime allBelow badPrime isDegree badDegree badLength badWord congruencesHold checkNumberOr sum scale constant shift top timesX product power residueOfX substitute modulusAt

@@ -24,7 +24,7 @@ use Rattle.running.specs.Running as Running
 use Rattle.running.specs.Running.{beginNumber, partNumber, feedNumber, feedAs, feedOutputAs}
 use Rattle.session.specs.Session.{counted, answer, stepWith, recordWith, reportText}
 use Rattle.runs.specs.Theorem.{next, run}
-use Rattle.promises.specs.OpenTableExamples.{OpenTableExamples}
+use Rattle.examples.specs.OpenTableExamples.{OpenTableExamples}
 
 pub open-table-examples : OpenTableExamples
 unfolding all equal first range isPrime padded allBelow badPrime isDegree badDegree badLength badWord monic polynomialProduct dividesTest hasDivisor residues prefixed sum scale constant shift top

@@ -10,9 +10,9 @@ use Rattle.quotient.specs.Divisor.{monic, polynomialProduct}
 use Rattle.refusal.specs.Refusal.{badPrime, isDegree, badDegree, badLength, badWord}
 use Rattle.galois.specs.Tower.{exponent, raised}
 use Rattle.finder.specs.Finder.{divides, findable}
-use Rattle.promises.specs.TowerExamples.{TowerExamples}
-use Rattle.promises.proofs.ListedTower.{solution, tower-found}
-use Rattle.promises.proofs.Refused.{models, words-counted, factor-divides, divisor-refused}
+use Rattle.examples.specs.TowerExamples.{TowerExamples}
+use Rattle.examples.proofs.ListedTower.{solution, tower-found}
+use Rattle.examples.proofs.Refused.{models, words-counted, factor-divides, divisor-refused}
 
 pub tower-examples : TowerExamples
 unfolding isPrime badPrime isDegree badDegree badLength badWord allBelow all first range exponent divides findable constant sum scale shift top timesX product power raised residueOfX substitute

@@ -30,9 +30,9 @@ use Rattle.work.specs.Number.{stateFrom, stateNumber, fullNumber}
 use Rattle.work.specs.Work.{validWork, looked}
 use Rattle.conversion.specs.Conversion.{imagesIn, convertNumber, convertOutput}
 use Rattle.session.specs.Session.{counted}
-use Rattle.promises.specs.Examples.{FinderValues, Examples}
-use Rattle.promises.proofs.Listed.{listed, found, outputs}
-use Rattle.promises.proofs.Refused.{words-counted, factor-divides, indivisible-refused, divisor-refused, second-refused}
+use Rattle.examples.specs.Examples.{FinderValues, Examples}
+use Rattle.examples.proofs.Listed.{listed, found, outputs}
+use Rattle.examples.proofs.Refused.{words-counted, factor-divides, indivisible-refused, divisor-refused, second-refused}
 
 pub examples : Examples
 unfolding hasDivisor dividesTest residues prefixed all equal first range bits numberFrom bytes packed width allBits header card badKind cardLength writeNumber

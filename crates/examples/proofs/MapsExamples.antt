@@ -11,7 +11,7 @@ use Rattle.pair.specs.Pair.{congruencesHold, checkNumberOr}
 use Rattle.quotient.specs.DivisorTest.{dividesTest, hasDivisor}
 use Rattle.quotient.specs.Residue.{residues, prefixed, sum, scale, constant, shift, top, timesX, product, power, residueOfX, substitute, modulusAt}
 use Rattle.maps.specs.Maps.{maps, mapsNumber, mapsOutput}
-use Rattle.promises.specs.MapsExamples.{MapsExamples}
+use Rattle.examples.specs.MapsExamples.{MapsExamples}
 
 pub maps-examples : MapsExamples
 unfolding hasDivisor dividesTest residues prefixed all equal first range filter flatten isPrime allBelow badPrime isDegree badDegree badLength badWord congruencesHold checkNumberOr sum scale constant shift top timesX product power residueOfX substitute modulusAt

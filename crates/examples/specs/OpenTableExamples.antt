@@ -6,7 +6,7 @@ use Rattle.ledger.specs.declared.Direction.the-variants.{Forward, Back}
 use Rattle.session.specs.Session.{convert, convertOutput, begin, feed, feedOutput, end, reportText, clear}
 use Rattle.runs.specs.Theorem.{callLoad, callPropose, callBegin, callFeed, callEnd, run}
 use Rattle.session.specs.declared.Session.{Session}
-use Rattle.promises.specs.Examples.{pairOfA}
+use Rattle.examples.specs.Examples.{pairOfA}
 
 -- a table forward, to which 1 + X was fed
 abbrev pub begun : Session

@@ -12,7 +12,7 @@ use Rattle.quotient.specs.Residue.{residues, prefixed, sum, scale, constant, sh
 use Rattle.matrix.specs.Matrix.{multiple, dot}
 use Rattle.table.specs.Table.{eachGroup}
 use Rattle.bymatrix.specs.ByMatrix.{word, square, matrixOf, matricesNumber, forwardOutput, backOutput, matrixTimes, byMatrix, byMatrixNumber, byMatrixOutput}
-use Rattle.promises.specs.MatrixExamples.{MatrixExamples}
+use Rattle.examples.specs.MatrixExamples.{MatrixExamples}
 
 pub matrix-examples : MatrixExamples
 unfolding hasDivisor dividesTest residues prefixed all equal range isPrime allBelow badPrime isDegree badDegree badLength badWord congruencesHold checkNumberOr sum scale constant shift top timesX product power residueOfX substitute modulusAt

@@ -16,7 +16,7 @@ use Rattle.work.specs.Number.{stateFrom, stateNumber, fullNumber}
 use Rattle.work.specs.Work.{validWork, looked}
 use Rattle.conversion.specs.Conversion.{convertNumber, convert}
 use Rattle.session.specs.Session.{counted, answer, recordWith, reportText, reportNumber}
-use Rattle.promises.specs.LedgerExamples.{LedgerExamples}
+use Rattle.examples.specs.LedgerExamples.{LedgerExamples}
 
 pub ledger-examples : LedgerExamples
 unfolding all first range isPrime padded allBelow badPrime isDegree badDegree badWord ascii decimal lastDigits valid validAs validHeld viewAs view pairedHeld tableNumber total letter number line lines report

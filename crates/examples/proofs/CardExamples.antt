@@ -5,7 +5,7 @@ use Rattle.modular.specs.Prime.{isPrime}
 use Rattle.refusal.specs.Refusal.{badPrime, badLength}
 use Rattle.card.specs.Bits.{bits, numberFrom, bytes, packed, unpacked}
 use Rattle.card.specs.Card.{width, allBits, header, card, fieldAt, fieldsAt, isWide, cardPrime, cardDegree, cardKind, cardWords, badHeader, badLayout, readNumber}
-use Rattle.promises.specs.CardExamples.{CardExamples}
+use Rattle.examples.specs.CardExamples.{CardExamples}
 
 pub card-examples : CardExamples
 unfolding all first range isPrime badPrime badLength bits numberFrom bytes packed unpacked width allBits header card fieldAt fieldsAt isWide cardPrime cardDegree cardKind cardWords badHeader badLayout

@@ -19,7 +19,7 @@ use Rattle.finder.specs.Theorem.{PairOf}
 use Rattle.finder.proofs.ChosenPair.{found-chosen, chosen-unique}
 use Rattle.finder.proofs.Findable.{models-size}
 use Rattle.finder.proofs.Theorem.{demand-3}
-use Rattle.promises.specs.TowerExamples.{TowerValues}
+use Rattle.examples.specs.TowerExamples.{TowerValues}
 
 pub solution : {p n : ℕ} {t a : List ℕ} (v : List ℕ) → badLength n (v ∷ []) ≡ false → badWord p (v ∷ []) ≡ false → power p t v p ≡ sum p v a → getD v 0 0 ≡ 0 → ArtinSchreier p n t a v
 solution {p} {n} v length-is words-are equation constant-zero =

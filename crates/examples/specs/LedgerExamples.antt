@@ -6,7 +6,7 @@ use lib.ListN.{length}
 use Rattle.text.specs.Ascii.{ascii}
 use Rattle.ledger.specs.declared.Direction.the-variants.{Forward, Back}
 use Rattle.session.specs.Session.{newSession, convert, reportText, reportOutput}
-use Rattle.promises.specs.Examples.{pairOfA}
+use Rattle.examples.specs.Examples.{pairOfA}
 
 pub record LedgerExamples : Type 0 where
   pub no-records : reportText newSession ≡ ascii "0\n0\n"

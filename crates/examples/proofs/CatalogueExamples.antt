@@ -9,7 +9,7 @@ use Rattle.refusal.specs.Refusal.{badPrime, isDegree, badDegree}
 use Rattle.quotient.specs.DivisorTest.{dividesTest, hasDivisor}
 use Rattle.quotient.specs.Residue.{residues, prefixed, sum, scale, constant, shift, top, timesX, product, power, residueOfX, substitute, modulusAt}
 use Rattle.catalogue.specs.Catalogue.{models, countNumber, modelCount, listNumber, listOutput}
-use Rattle.promises.specs.CatalogueExamples.{CatalogueExamples}
+use Rattle.examples.specs.CatalogueExamples.{CatalogueExamples}
 
 pub catalogue-examples : CatalogueExamples
 unfolding hasDivisor dividesTest residues prefixed all first range filter flatten isPrime badPrime isDegree badDegree sum scale constant shift top timesX product power residueOfX substitute modulusAt

@@ -35,7 +35,7 @@ use Rattle.array.proofs.Words.{words-length}
 use Rattle.quotient.specs.Divisor.{HasDivisor}
 use Rattle.quotient.specs.Residue.{power, constant, modulusAt, scale, substitute}
 use Rattle.quotient.proofs.Substitution.{substitute-substitute, x-substitute}
-use Rattle.promises.specs.Examples.{FinderValues}
+use Rattle.examples.specs.Examples.{FinderValues}
 use Rattle.refusal.specs.Models.{Given}
 
 pub record Listed (p n : ℕ) (t : List ℕ) (z a : ℕ) (v : List ℕ) (b k : ℕ) : Type 0 where

@@ -5,7 +5,7 @@ use lib.ListN.{length}
 use Rattle.algebra.specs.Lists.{range}
 use Rattle.refusal.specs.Refusal.{isDegree, badDegree}
 use Rattle.differences.specs.Differences.{minus, differences, sumOf, restored, differencesNumber, differencesOutput, restoreOutput}
-use Rattle.promises.specs.DifferencesExamples.{DifferencesExamples}
+use Rattle.examples.specs.DifferencesExamples.{DifferencesExamples}
 
 pub differences-examples : DifferencesExamples
 unfolding range isDegree badDegree minus differences sumOf restored differencesNumber differencesOutput restoreOutput
