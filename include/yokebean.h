@@ -27,7 +27,7 @@
  *   29  p^n is above 65,536, and a catalogue is asked for
  * Load, propose and find act on the current session; while a table is open they act on the waiting one, and 21, 23 and 24 are about that.
  *
- * Lists: each pointer must point to as many words as its length says (a list of length 0 may have any pointer that is not null and is
+ * Lists: each pointer must point to as many words, or bytes, as its length says (a list of length 0 may have any pointer that is not null and is
  * aligned), and a list that a call writes must not overlap any other list of the same call.
  */
 #ifndef YOKEBEAN_H
@@ -78,15 +78,16 @@ uint32_t yokebean_check(uint32_t p, uint32_t n, const uint32_t *t1, size_t t1_le
                         const uint32_t *s, size_t s_len, const uint32_t *r, size_t r_len);
 
 /* All the maps: from a pair that the checker accepts, writes the n polynomials S' with T1(S') = 0 mod T2 into out, each exactly once and as n
- * words, in ascending order, where coefficients are compared from the highest power down. out has n*n words. 1, 2, 3, 4, 6, 7, 8. */
+ * words, in ascending order, where coefficients are compared from the highest power down. They are all isomorphisms of the two fields: every
+ * one-to-one and onto map that preserves sums, products and one is u -> u(S') mod T2 for exactly one of them. out has n*n words.
+ * 1, 2, 3, 4, 6, 7, 8. */
 uint32_t yokebean_maps(uint32_t p, uint32_t n, const uint32_t *t1, size_t t1_len, const uint32_t *t2, size_t t2_len,
                        const uint32_t *s, size_t s_len, const uint32_t *r, size_t r_len, uint32_t *out, size_t out_len);
 
 /* The matrices of the two maps, from a pair that the checker accepts: forward gets that of u -> u(S) mod T2, whose columns are the powers S^0 to
  * S^(n-1) mod T2, and back that of u -> u(R) mod T1, whose columns are the powers R^0 to R^(n-1) mod T1. Each has n*n words, row after row: word
- * i*n + j is coefficient i of S^j, or of R^j. They multiply to the identity modulo p both ways. The matrices of source document 004 (Kern and
- * Mignotte), polynomials in the companion matrix of T, are not these but those of multiplication, u -> u*S mod T, with the columns S, X*S, ...,
- * X^(n-1)*S.
+ * i*n + j is coefficient i of S^j, or of R^j. They multiply to the identity modulo p both ways. The matrices of Kern and Mignotte, polynomials in
+ * the companion matrix of T, are not these but those of multiplication, u -> u*S mod T, with the columns S, X*S, ..., X^(n-1)*S.
  * In example A, p = 3, T1 = [1, 0], T2 = [2, 1], S = R = [1, 2], written row / row:
  *    forward                            1 1 / 0 2, with the columns 1 and S mod T2
  *    back                               1 1 / 0 2, with the columns 1 and R mod T1
@@ -113,7 +114,7 @@ uint32_t yokebean_restore(uint32_t n, const uint32_t *differences, size_t differ
 /* The printed sheet of a pair that the checker accepts: T1, T2, S and R, each starting a line with its name in 3 columns; coefficients follow,
  * constant first, eight to a line, right-justified in 7 columns; continued lines begin with 3 blanks, and every line is filled with blanks to
  * 59 columns and ends with a newline. A word v prints as v if v is at most p/2 rounded down, else as v - p; a negative number of six digits fills
- * its columns. ASCII, without a zero at the end. out has yokebean_sheet_length(n) bytes: 240 for n up to 8, 480 for n from 9 to 16.
+ * its columns. ASCII, without a zero at the end. out has yokebean_sheet_length(n) bytes: 240 for n from 1 to 8, 480 for n from 9 to 16.
  * 1, 2, 3, 4, 6, 7, 8. */
 uint32_t yokebean_sheet(uint32_t p, uint32_t n, const uint32_t *t1, size_t t1_len, const uint32_t *t2, size_t t2_len,
                         const uint32_t *s, size_t s_len, const uint32_t *r, size_t r_len, uint8_t *out, size_t out_len);

@@ -1,4 +1,4 @@
-//! The catalogue of a size: all its models, to pick a modulus from.
+//! The catalogue of a size: all its models, to pick a modulus from. Each call takes 260 KiB of stack.
 
 use crate::{answer, raw, Refusal, Size};
 use std::iter::FusedIterator;

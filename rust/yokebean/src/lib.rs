@@ -1,7 +1,7 @@
 //! Isomorphisms of finite fields: test a modulus, list all of a size, check a pair, list all maps, find a pair, convert tables through it, whole or in
-//! parts, or by the matrix of a map; and store tables as differences. Each function passes its slices on to the proved call of the same name in
-//! include/yokebean.h, those about all models of a size to the catalogue's, which `rt staticlib capi` builds; none of them panics, and a refused call
-//! leaves every slice as it was.
+//! parts, or by the matrix of a map; and store tables as differences. Each function passes its slices on to the proved call of the same or a like name
+//! in include/yokebean.h ([`list_models`] to `yokebean_catalogue_list`); `rt staticlib capi` builds that library. None of them panics, and a refused
+//! call leaves every slice as it was.
 //!
 //! A model is a prime p up to 1,048,575, a degree n from 1 to 16 and a monic modulus of degree n; its n lower words are passed, constant first.
 //! A residue is n words below p, in the same order.
@@ -105,8 +105,8 @@ pub fn irreducible(size: Size, t: &[u32]) -> Result<(), Refusal> {
     answer(number, ())
 }
 
-/// The checker: whether T1 and T2 are irreducible and the four congruences hold; then both models are fields, and u ↦ u(S) mod T2 and
-/// u ↦ u(R) mod T1 are inverse isomorphisms. Refusals 1, 2, 3, 4, 6, 7, 8.
+/// The checker: whether T1 and T2 are irreducible and T1(S) = 0 mod T2, T2(R) = 0 mod T1, S(R) = X mod T1 and R(S) = X mod T2; then both models are
+/// fields, and u ↦ u(S) mod T2 and u ↦ u(R) mod T1 are inverse isomorphisms. Refusals 1, 2, 3, 4, 6, 7, 8.
 ///
 /// ```
 /// use yokebean::{check, Refusal, Size};
@@ -125,7 +125,9 @@ pub fn check(size: Size, t1: &[u32], t2: &[u32], s: &[u32], r: &[u32]) -> Result
 }
 
 /// All the maps: from a pair that the checker accepts, writes the n polynomials S' with T1(S') = 0 mod T2 into `out`, each exactly once and as n
-/// words, in ascending order, where coefficients are compared from the highest power down. `out` has n·n words. Refusals 1, 2, 3, 4, 6, 7, 8.
+/// words, in ascending order, where coefficients are compared from the highest power down. They are all isomorphisms of the two fields: every
+/// one-to-one and onto map that preserves sums, products and one is u ↦ u(S') mod T2 for exactly one of them. `out` has n·n words. Refusals 1, 2, 3,
+/// 4, 6, 7, 8.
 ///
 /// ```
 /// let size = yokebean::Size { p: 3, n: 2 };
@@ -157,7 +159,7 @@ pub fn maps(size: Size, t1: &[u32], t2: &[u32], s: &[u32], r: &[u32], out: &mut 
 
 /// The matrices of the two maps, from a pair that the checker accepts: `forward` gets that of u ↦ u(S) mod T2, whose columns are the powers
 /// S⁰ to S^(n−1) mod T2, and `back` that of u ↦ u(R) mod T1, whose columns are the powers of R. Each has n·n words, row after row: word i·n + j is
-/// coefficient i of S^j, or of R^j. They multiply to the identity modulo p both ways. The matrices of source document 004 are not these but those of
+/// coefficient i of S^j, or of R^j. They multiply to the identity modulo p both ways. The matrices of Kern and Mignotte are not these but those of
 /// multiplication; include/yokebean.h has both for example A. Refusals 1, 2, 3, 4, 6, 7, 8.
 ///
 /// ```

@@ -1,5 +1,5 @@
-//! The calls of include/yokebean.h, as C has them. Each list is a pointer and the number of its words, and must be as many words long; a list that
-//! a call writes must not overlap another list of the call.
+//! The calls of include/yokebean.h, as C has them. Each list is a pointer and the number of its words or bytes, and must be that long; the pointer of an
+//! empty list is not null and is aligned; a list that a call writes must not overlap another list of the call.
 
 type Words = *const u32;
 type Lent = *mut u32;

@@ -1,12 +1,13 @@
-//! Why a call was refused: the documents' numbers and their sentences, each said once.
+//! Why a call was refused: the numbers and their sentences, each said once.
 
 use std::fmt;
 
 /// The enum, its numbers and its sentences, from one list.
 macro_rules! refusals {
     ($($number:literal $name:ident $sentence:literal)*) => {
-        /// Why a call was refused. Its `Display` is the documents' sentence. Of load, propose and find on an [`OpenTable`](crate::OpenTable),
-        /// 21, 23 and 24 are about the waiting session.
+        /// Why a call was refused. Its `Display` is the sentence that stands with it here. Of load, propose and find on an [`OpenTable`](crate::OpenTable),
+        /// 21, 23 and 24 are about the waiting session; 26 and 27 come only from the calls of [`raw`](crate::raw), since here an open table is a type of its
+        /// own.
         ///
         /// ```
         /// use yokebean::{check, Refusal, Size};
@@ -31,7 +32,7 @@ macro_rules! refusals {
                 }
             }
 
-            /// The documents' number.
+            /// The number that C has for it.
             ///
             /// ```
             /// assert_eq!(yokebean::Refusal::Congruence.number(), 8);
@@ -63,7 +64,7 @@ refusals! {
     5 DegreeDoesNotDivide "n neither divides p − 1 nor is p^k with k ≥ 1"
     6 FirstModulusFactors "T1, or T where a call has one modulus, has a monic divisor of degree 1 to n − 1"
     7 SecondModulusFactors "T2 has a monic divisor of degree 1 to n − 1"
-    8 Congruence "one of the four congruences fails"
+    8 Congruence "one of the congruences T1(S) = 0 mod T2, T2(R) = 0 mod T1, S(R) = X mod T1, R(S) = X mod T2 fails"
     9 TableLength "words of a table or part: above 16,384 or not a multiple of n; or a part that would bring its table above 4,294,967,295 residues"
     10 OutputLength "output length differs from input length"
     11 CardLength "card under 3 bytes, or under 6 where it begins with two zero bytes, or not of its exact length"
