@@ -5,7 +5,8 @@
 --                             nothing is assumed of how they are computed
 --   IsForward p n t2 s f      f is the forward map of a pair with this S: f(u) = u(S) modulo T2 for every residue u
 --   OnePair p n t1 t2 f       f is the forward map of an accepted pair, and of one pair only
---   EveryIsomorphism          so it is for every isomorphism of two models without proper divisors
+--   EveryIsomorphism          so it is for every isomorphism of two models without proper divisors; also for n = 1, where every S gives the map u ↦ u and the congruences
+--                             leave one pair
 --   OneEntry p n t2 list f    f is the forward map of exactly one entry of the list
 --   ListIsAll p n t1 t2       the list of all maps has n entries; each has an isomorphism as its forward map; every isomorphism is that of exactly one entry, so there are
 --                             exactly n; and for any accepted pair the call `maps` writes this list, entry k as the n words from word k·n on
