@@ -78,7 +78,7 @@ uint32_t yokebean_check(uint32_t p, uint32_t n, const uint32_t *t1, size_t t1_le
                         const uint32_t *s, size_t s_len, const uint32_t *r, size_t r_len);
 
 /* All the maps: from a pair that the checker accepts, writes the n polynomials S' with T1(S') = 0 mod T2 into out, each exactly once and as n
- * words, in ascending order, where coefficients are compared from the highest power down. They are all isomorphisms of the two fields: every
+ * words, in ascending order, where coefficients are compared from the highest power down. They give all the isomorphisms of the two fields: every
  * one-to-one and onto map that preserves sums, products and one is u -> u(S') mod T2 for exactly one of them. out has n*n words.
  * 1, 2, 3, 4, 6, 7, 8. */
 uint32_t yokebean_maps(uint32_t p, uint32_t n, const uint32_t *t1, size_t t1_len, const uint32_t *t2, size_t t2_len,

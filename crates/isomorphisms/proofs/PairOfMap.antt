@@ -1,14 +1,13 @@
 -- The pair is read off the map. If f preserves sums, products and one, then f(u) = f(u(X)) = u(f(X)): f is u ↦ u(S) for S = f(X), and T1(S) = f(T1(X)) = f(0) = 0. If f is
 -- onto, some R has f(R) = X, that is R(S) = X. An accepted pair with this forward map has X(S') = S', for n = 1 because T1(S') = 0; so S' = f(X) = S. And f(R') = R'(S) = X = f(R),
 -- so that R' = R where f is one-to-one.
-use mathlib.Core.Path.{_≡_, sym, ap, subst, _∙_}
+use mathlib.Core.Path.{_≡_, sym, ap, _∙_}
 use mathlib.Core.List.{List}
 use Prim.Native.Nat.{ℕ, suc, _≤_}
 use native.Mathlib.Omega.{arith}
 use Rattle.array.specs.Words.{Words}
 use Rattle.array.proofs.Words.{words-length, of-length, to-length}
 use Rattle.pair.specs.Pair.{forward, checkNumber}
-use Rattle.pair.specs.Theorem.{Isomorphisms}
 use Rattle.pair.proofs.Theorem.{checker-theorem}
 use Rattle.pair.proofs.TwoCongruences.{two-congruences}
 use Rattle.quotient.specs.Divisor.{HasDivisor}

@@ -1,10 +1,11 @@
 -- The proofs of what specs/Theorem.antt states.
 use mathlib.Core.Path.{_≡_, sym, ap, _∙_}
+use mathlib.Core.Bool.{not}
 use mathlib.Core.List.{List, [], flatten}
 use Prim.Native.Nat.{ℕ, zero, suc, _*_, _<_}
 use native.Mathlib.Omega.{arith}
+use borrow.Author.Tests.{eq-eqb}
 use lib.ListN.{length, getD, take, drop}
-use Rattle.algebra.specs.Lists.{Member}
 use Rattle.algebra.proofs.Lists.{member-all}
 use Rattle.algebra.proofs.Places.{place-member, member-place, places-apart}
 use Rattle.array.specs.Words.{Words}
@@ -15,11 +16,9 @@ use Rattle.galois.proofs.RootIndependent.{root-independent}
 use Rattle.maps.specs.Maps.{maps, mapsNumber, mapsOutput}
 use Rattle.maps.specs.Theorem.{EveryMap}
 use Rattle.maps.proofs.Theorem.{root-accepted, maps-theorem}
-use Rattle.pair.specs.Pair.{forward, backward, checkNumber}
-use Rattle.pair.specs.Theorem.{Isomorphisms}
+use Rattle.pair.specs.Pair.{forward, backward, checkNumber, checkNumberOr}
 use Rattle.pair.proofs.Theorem.{checker-theorem}
 use Rattle.quotient.specs.Divisor.{HasDivisor}
-use Rattle.quotient.specs.Map.{Preserves}
 use Rattle.quotient.specs.Residue.{residueOfX}
 use Rattle.quotient.proofs.Listing.{one-to-one-onto}
 use Rattle.refusal.specs.Models.{Models}
@@ -89,6 +88,10 @@ module _ (p n : ℕ) (t1 t2 : List ℕ) (g : Models p n t1 t2) (none1 : HasDivis
             (pair .only (entry j) r' accepted same .0 ∙ sym at-k);
       }
 
+  number-is : (s r out : List ℕ) → checkNumber p n t1 t2 s r ≡ 0 → length out ≡ n * n → mapsNumber p n t1 t2 s r out ≡ 0
+  unfolding mapsNumber
+  number-is s r out accepted room = ap (λ b. checkNumberOr (not b) p n t1 t2 s r) (eq-eqb (length out) (n * n) room) ∙ accepted
+
   written-entry : (s r out : List ℕ) → mapsNumber p n t1 t2 s r out ≡ 0 → (k : ℕ) → k < n → take n (drop (k * n) (mapsOutput p n t1 t2 s r out)) ≡ entry k
   unfolding entry mapsOutput
   written-entry s r out z k l =
@@ -104,7 +107,7 @@ module _ (p n : ℕ) (t1 t2 : List ℕ) (g : Models p n t1 t2) (none1 : HasDivis
         count = e .count;
         each = λ k l. let (r', accepted) = entry-accepted k l in accepted-isomorphism p n t1 t2 (entry k) r' accepted;
         every = λ f iso. one-entry f (every-isomorphism p n t1 t2 g none1 none2 f iso);
-        written = written-entry;
+        written = λ s r out accepted room. let z = number-is s r out accepted room in (z, written-entry s r out z);
       }
 
 pub every-isomorphism-listed : EveryIsomorphismListed

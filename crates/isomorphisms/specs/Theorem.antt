@@ -9,7 +9,7 @@
 --                             leave one pair
 --   OneEntry p n t2 list f    f is the forward map of exactly one entry of the list
 --   ListIsAll p n t1 t2       the list of all maps has n entries; each has an isomorphism as its forward map; every isomorphism is that of exactly one entry, so there are
---                             exactly n; and for any accepted pair the call `maps` writes this list, entry k as the n words from word k·n on
+--                             exactly n; and for any accepted pair the call `maps`, lent n·n words, writes this list, entry k as the n words from word k·n on
 --   EveryIsomorphismListed    so it is for every two models without proper divisors
 --   PairExists                every two models without proper divisors have an accepted pair, also where the finder refuses with 5
 --   PreservingIsEnough        a remark: where T1 has no proper divisor, one-to-one and onto follow from the rest. A residue but 0 has an inverse, so its image is not 0;
@@ -55,8 +55,8 @@ pub record ListIsAll (p n : ℕ) (t1 t2 : List ℕ) : Type 0 where
   pub count : length (maps p t1 t2) ≡ n
   pub each : (k : ℕ) → k < n → Isomorphism p n t1 t2 (forward p t2 (getD (maps p t1 t2) k []))
   pub every : (f : List ℕ → List ℕ) → Isomorphism p n t1 t2 f → OneEntry p n t2 (maps p t1 t2) f
-  pub written : (s r out : List ℕ) → mapsNumber p n t1 t2 s r out ≡ 0
-      → (k : ℕ) → k < n → take n (drop (k * n) (mapsOutput p n t1 t2 s r out)) ≡ getD (maps p t1 t2) k []
+  pub written : (s r out : List ℕ) → checkNumber p n t1 t2 s r ≡ 0 → length out ≡ n * n
+      → (mapsNumber p n t1 t2 s r out ≡ 0) × ((k : ℕ) → k < n → take n (drop (k * n) (mapsOutput p n t1 t2 s r out)) ≡ getD (maps p t1 t2) k [])
 
 abbrev pub EveryIsomorphismListed : Type 0
 EveryIsomorphismListed =

@@ -9,7 +9,7 @@ use Rattle.algebra.specs.Lists.{Member}
 use Rattle.algebra.proofs.Search.{filter-member}
 use Rattle.catalogue.specs.Catalogue.{models, countNumber}
 use Rattle.catalogue.proofs.Theorem as Catalogue
-use Rattle.finder.specs.Finder.{findable, Findable, findNumber}
+use Rattle.finder.specs.Finder.{findable, findNumber}
 use Rattle.finder.proofs.Findable.{find-models, findable-true}
 use Rattle.irreducible.proofs.Theorem as Irreducible
 use Rattle.quotient.specs.DivisorTest.{hasDivisor}

@@ -125,7 +125,7 @@ pub fn check(size: Size, t1: &[u32], t2: &[u32], s: &[u32], r: &[u32]) -> Result
 }
 
 /// All the maps: from a pair that the checker accepts, writes the n polynomials S' with T1(S') = 0 mod T2 into `out`, each exactly once and as n
-/// words, in ascending order, where coefficients are compared from the highest power down. They are all isomorphisms of the two fields: every
+/// words, in ascending order, where coefficients are compared from the highest power down. They give all the isomorphisms of the two fields: every
 /// one-to-one and onto map that preserves sums, products and one is u ↦ u(S') mod T2 for exactly one of them. `out` has n·n words. Refusals 1, 2, 3,
 /// 4, 6, 7, 8.
 ///

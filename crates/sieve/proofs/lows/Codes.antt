@@ -1,6 +1,6 @@
 -- The loops of `clear`, `collect` and `lows`: number h gets one digit after the other, from the highest down; before the turn for digit j − 1 it has the digits from j on.
 use mathlib.Core.Path.{_≡_, refl, sym, ap, ap₂, subst, _∙_}
-use mathlib.Core.List.{List, []}
+use mathlib.Core.List.{List}
 use mathlib.Core.Logic.{⊎-elim}
 use Prim.Native.Nat.{ℕ, zero, suc, _+_, _-_, _*_, _%_, _^_, _≤_, _<_}
 use native.Mathlib.Nat as Nat
