@@ -28,10 +28,10 @@ use Rattle.finder.proofs.Findable.{models-admissible}
 use Rattle.finder.proofs.Theorem.{demand-3}
 use Rattle.pair.specs.Pair.{Congruences, checkNumber}
 use Rattle.pair.proofs.Theorem.{checker-theorem}
+use Rattle.pair.proofs.TwoCongruences.{first-congruence}
 use Rattle.refusal.specs.Refusal.{badLength, badWord}
 use Rattle.refusal.proofs.Lists.{words-given}
 use Rattle.array.specs.Words.{Words}
-use Rattle.array.proofs.Words.{words-length}
 use Rattle.quotient.specs.Divisor.{HasDivisor}
 use Rattle.quotient.specs.Residue.{power, constant, modulusAt, scale, substitute}
 use Rattle.quotient.proofs.Substitution.{substitute-substitute, x-substitute}
@@ -98,7 +98,7 @@ module _ {p n : ℕ} {t1 t2 : List ℕ} {z a : ℕ} {x y s r : List ℕ} (h : Li
   congruences = checker-theorem p (suc n) t1 t2 s r .0 (h .accepted) .2
 
   root-of-t1 : modulusAt p t2 s t1 ≡ constant (suc n) 0
-  root-of-t1 = congruences .root-of-t1 ∙ ap (λ k. constant k 0) (words-length (given .models .modulus2))
+  root-of-t1 = first-congruence (given .models .modulus2) congruences
 
   abbrev big : 2 ≤ p
   big = given .models .prime .0

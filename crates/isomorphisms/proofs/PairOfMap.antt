@@ -6,10 +6,10 @@ use mathlib.Core.List.{List}
 use Prim.Native.Nat.{ℕ, suc, _≤_}
 use native.Mathlib.Omega.{arith}
 use Rattle.array.specs.Words.{Words}
-use Rattle.array.proofs.Words.{words-length, of-length, to-length}
+use Rattle.array.proofs.Words.{of-length, to-length}
 use Rattle.pair.specs.Pair.{forward, checkNumber}
 use Rattle.pair.proofs.Theorem.{checker-theorem}
-use Rattle.pair.proofs.TwoCongruences.{two-congruences}
+use Rattle.pair.proofs.TwoCongruences.{first-congruence, two-congruences}
 use Rattle.quotient.specs.Divisor.{HasDivisor}
 use Rattle.quotient.specs.Map.{Preserves}
 use Rattle.quotient.specs.Residue.{constant, residueOfX, modulusAt}
@@ -48,8 +48,8 @@ module _ {p n : ℕ} {t1 t2 : List ℕ} (g : Models p (suc n) t1 t2) {f : List �
   only-pair r s' r' accepted accepted' same =
       let (given, _, c, _) = checker-theorem p (suc n) t1 t2 S r .0 accepted in
       let (given', _, c', _) = checker-theorem p (suc n) t1 t2 s' r' .0 accepted' in
-      let root' : modulusAt p t2 s' t1 ≡ constant (suc n) 0 = c' .root-of-t1 ∙ ap (λ k. constant k 0) (words-length (g .modulus2)) in (
-        sym (same (residueOfX p t1) (residueOfX-words big (g .modulus1)) ∙ x-substitute big (g .modulus1) (g .modulus2) (given' .words-s) root'),
+      let x-at-s' = x-substitute big (g .modulus1) (g .modulus2) (given' .words-s) (first-congruence (g .modulus2) c') in (
+        sym (same (residueOfX p t1) (residueOfX-words big (g .modulus1)) ∙ x-at-s'),
         iso .one-to-one r' r (given' .words-r) (given .words-r)
             (same r' (given' .words-r) ∙ c' .r-of-s ∙ sym (is-forward r (given .words-r) ∙ c .r-of-s)),
       )

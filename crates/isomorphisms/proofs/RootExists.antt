@@ -72,8 +72,8 @@ module _ {p n : ℕ} {t1 t2 : List ℕ} (prime : Prime p) (w1 : Words p (suc n) 
         = mul-left-cancel F (evaluate K (monic e) u) (evaluate K (monic t1) u) (K .zero) other (product-vanishes u ∙ sym (mul-zero K (evaluate K (monic e) u))) in
         modulusAt-is (prime .0) w2 u t1 ∙ ap (λ v. v .0) root ∙ zero-is (prime .0) w2
 
-    root-beside : (s : List ℕ) × Words p (suc n) s × (modulusAt p t2 s t1 ≡ constant (suc n) 0)
-    root-beside = let (u, other) = some-other in (u .0, u .1, other-root u other)
+    root-by-counting : (s : List ℕ) × Words p (suc n) s × (modulusAt p t2 s t1 ≡ constant (suc n) 0)
+    root-by-counting = let (u, other) = some-other in (u .0, u .1, other-root u other)
 
   pub root-exists : (s : List ℕ) × Words p (suc n) s × (modulusAt p t2 s t1 ≡ constant (suc n) 0)
   root-exists = of-cofactor (cofactor (prime .0) w1 (powerMinusX p k) divides j (suc (suc k)) degrees (power-minus-x-words (prime .0) k))
@@ -92,4 +92,4 @@ module _ {p n : ℕ} {t1 t2 : List ℕ} (prime : Prime p) (w1 : Words p (suc n) 
 
       of-cofactor : (e : List ℕ) × Words p j e × Same p (polynomialProduct p (monic e) (monic t1)) (monic (powerMinusX p k))
           → (s : List ℕ) × Words p (suc n) s × (modulusAt p t2 s t1 ≡ constant (suc n) 0)
-      of-cofactor (e, we, same) = root-beside k j (size-is p n (prime .0)) degrees we same
+      of-cofactor (e, we, same) = root-by-counting k j (size-is p n (prime .0)) degrees we same

@@ -15,6 +15,7 @@ use Rattle.array.proofs.Ascending.{ascending-filter, ascending-unique}
 use Rattle.array.proofs.Words.{words-length, of-length, to-length}
 use Rattle.pair.specs.Pair.{checkNumber}
 use Rattle.pair.proofs.Theorem.{checker-theorem}
+use Rattle.pair.proofs.TwoCongruences.{first-congruence}
 use Rattle.quotient.specs.Divisor.{HasDivisor}
 use Rattle.quotient.specs.Residue.{residues, constant, conjugate, modulusAt}
 use Rattle.quotient.proofs.Conjugates.{conjugate-words}
@@ -68,4 +69,4 @@ maps-sorted p zero t1 t2 s r accepted = absurd (omega (arith, checker-theorem p 
 maps-sorted p (suc n) t1 t2 s r accepted =
     let (g, fields, c, iso) = checker-theorem p (suc n) t1 t2 s r .0 accepted in
     in-order (g .models .prime) (g .models .modulus1) (g .models .modulus2) (fields .no-divisor1) (fields .no-divisor2) (g .words-s)
-    (c .root-of-t1 ∙ ap (λ k. constant k 0) (words-length (g .models .modulus2)))
+    (first-congruence (g .models .modulus2) c)

@@ -7,13 +7,12 @@ use native.Mathlib.Omega.{arith}
 use lib.ListN.{length}
 use Rattle.algebra.specs.Lists.{Member}
 use Rattle.array.specs.Words.{Words}
-use Rattle.array.proofs.Words.{words-length}
 use Rattle.galois.specs.Express.{express}
 use Rattle.galois.proofs.Express.{express-is}
 use Rattle.galois.proofs.RootIndependent.{root-independent}
 use Rattle.pair.specs.Pair.{checkNumber}
 use Rattle.pair.proofs.Theorem.{checker-theorem}
-use Rattle.pair.proofs.TwoCongruences.{two-congruences}
+use Rattle.pair.proofs.TwoCongruences.{first-congruence, two-congruences}
 use Rattle.refusal.specs.Models.{Models}
 use Rattle.quotient.specs.Divisor.{HasDivisor}
 use Rattle.quotient.specs.Residue.{constant, conjugate, modulusAt}
@@ -39,7 +38,7 @@ root-accepted p (suc n) t1 t2 g none1 none2 s' ws root =
 accepted-root : (p n : ℕ) (t1 t2 s' r' : List ℕ) → checkNumber p n t1 t2 s' r' ≡ 0 → Member s' (maps p t1 t2)
 accepted-root p n t1 t2 s' r' accepted =
     let (g, fields, c, iso) = checker-theorem p n t1 t2 s' r' .0 accepted in
-    root-map p t1 t2 (g .models .modulus2) s' (g .words-s) (c .root-of-t1 ∙ ap (λ k. constant k 0) (words-length (g .models .modulus2)))
+    root-map p t1 t2 (g .models .modulus2) s' (g .words-s) (first-congruence (g .models .modulus2) c)
 
 pub maps-theorem : MapsTheorem
 maps-theorem p n t1 t2 s r accepted =

@@ -1,5 +1,5 @@
 -- The test `congruencesHold` is true exactly when the four congruences hold, and for lists of words it is the test of two of them.
-use mathlib.Core.Path.{_≡_, ap, ap₂, _∙_}
+use mathlib.Core.Path.{_≡_, ap₂}
 use mathlib.Core.Bool.{Bool, true, _&&_, and-eq-true-iff}
 use mathlib.Core.List.{List}
 use Prim.Native.Nat.{ℕ, zero, suc, _≤_}
@@ -9,7 +9,6 @@ use Rattle.algebra.specs.Lists.{equal}
 use Rattle.algebra.proofs.Equality.{equal-of, of-equal, equal-tests}
 use Rattle.array.specs.Words.{Words}
 use Rattle.quotient.specs.Residue.{constant, residueOfX, substitute, modulusAt}
-use Rattle.array.proofs.Words.{words-length}
 use Rattle.pair.specs.Pair.{Congruences, congruencesHold}
 use Rattle.pair.specs.Theorem.{Isomorphisms}
 use Rattle.pair.proofs.TwoCongruences as TwoCongruences
@@ -46,7 +45,7 @@ module _ {p : ℕ} {t1 t2 s r : List ℕ} (big : 2 ≤ p) where
   pub isomorphisms-of-congruences : (n : ℕ) → 1 ≤ n → Words p n t1 → Words p n t2 → Words p n s → Words p n r → Congruences p t1 t2 s r
       → Isomorphisms p n t1 t2 s r
   isomorphisms-of-congruences n some w1 w2 ws wr h =
-      isomorphisms-of-two n some w1 w2 ws wr (h .root-of-t1 ∙ ap (λ k. constant k 0) (words-length w2)) (h .r-of-s) .1
+      isomorphisms-of-two n some w1 w2 ws wr (TwoCongruences.first-congruence w2 h) (h .r-of-s) .1
 
   -- the two tests of the code
   pub hold-of-two : (n : ℕ) → 1 ≤ n → Words p n t1 → Words p n t2 → Words p n s → Words p n r
@@ -58,4 +57,4 @@ module _ {p : ℕ} {t1 t2 s r : List ℕ} (big : 2 ≤ p) where
       hold-of-congruences p t1 t2 s r (isomorphisms-of-two n some w1 w2 ws wr (of-equal _ _ (parts .0)) (of-equal _ _ (parts .1)) .0))
       (λ h.
       let c : Congruences p t1 t2 s r = congruences-of-hold p t1 t2 s r h in
-      ap₂ _&&_ (equal-of (c .root-of-t1 ∙ ap (λ k. constant k 0) (words-length w2))) (equal-of (c .r-of-s)))
+      ap₂ _&&_ (equal-of (TwoCongruences.first-congruence w2 c)) (equal-of (c .r-of-s)))

@@ -16,6 +16,10 @@ use Rattle.quotient.proofs.Operations as Operations
 use Rattle.pair.specs.Pair.{forward, backward, Congruences}
 use Rattle.pair.specs.Theorem.{Isomorphisms}
 
+-- T1(S) = 0 as n words
+pub first-congruence : {p n : ℕ} {t1 t2 s r : List ℕ} → Words p n t2 → Congruences p t1 t2 s r → modulusAt p t2 s t1 ≡ constant n 0
+first-congruence w2 c = c .root-of-t1 ∙ ap (λ k. constant k 0) (Words.words-length w2)
+
 module _ {p n : ℕ} {t1 t2 s r : List ℕ} (big : 2 ≤ p) (w1 : Words p (suc n) t1) (w2 : Words p (suc n) t2) (ws : Words p (suc n) s) (wr : Words p (suc n) r)
     (root : modulusAt p t2 s t1 ≡ constant (suc n) 0) (inverse : substitute p t2 s r ≡ residueOfX p t2) where
   backward-words : (u : List ℕ) → Words p (suc n) u → Words p (suc n) (backward p t1 r u)

@@ -1,8 +1,8 @@
 -- The models of the catalogue and the other calls: a list is a model exactly when it has no proper divisor, and that is what 6 and 7 ask.
 use mathlib.Core.Path.{_≡_, _∙_}
-use mathlib.Core.Bool.{Bool, true, false, not}
+use mathlib.Core.Bool.{Bool, false, not}
 use mathlib.Core.List.{List, [], _∷_}
-use Prim.Native.Nat.{ℕ, _≤_}
+use Prim.Native.Nat.{ℕ, _≤_, _<_}
 use native.Mathlib.Omega.{arith}
 use borrow.Author.Tests.{not-true}
 use Rattle.algebra.specs.Lists.{Member}
@@ -16,7 +16,7 @@ use Rattle.quotient.specs.DivisorTest.{hasDivisor}
 use Rattle.quotient.specs.Residue.{residues}
 use Rattle.refusal.specs.Models.{Model, Models}
 use Rattle.refusal.specs.Refusal.{refuse, badPrime, badDegree, badLength, badWord}
-use Rattle.refusal.proofs.Refusal.{refuse-none, prime-given, degree-given}
+use Rattle.refusal.proofs.Refusal.{refuse-other, refuse-none, prime-given, degree-given}
 use Rattle.promises.specs.ListedModels.{ListedIsIrreducible, FinderTakesListed}
 
 -- what the number 0 leaves
@@ -48,33 +48,27 @@ no-divisor : (p n : ℕ) (t : List ℕ) → Member t (models p n) → hasDivisor
 unfolding models
 no-divisor p n t m = not-true (hasDivisor p t) (filter-member (λ u. not (hasDivisor p u)) (residues p n) t m .1)
 
--- where the test behind 6, or behind 7, fails, the number is another
-not-six : (a b c d e g : Bool) → refuse 1 a (refuse 2 b (refuse 3 c (refuse 4 d (refuse 5 e (refuse 6 false (refuse 7 g 0)))))) ≡ 6 → ⊥
-not-six true b c d e g h = omega arith
-not-six false true c d e g h = omega arith
-not-six false false true d e g h = omega arith
-not-six false false false true e g h = omega arith
-not-six false false false false true g h = omega arith
-not-six false false false false false true h = omega arith
-not-six false false false false false false h = omega arith
-
-not-seven : (a b c d e g : Bool) → refuse 1 a (refuse 2 b (refuse 3 c (refuse 4 d (refuse 5 e (refuse 6 g (refuse 7 false 0)))))) ≡ 7 → ⊥
-not-seven true b c d e g h = omega arith
-not-seven false true c d e g h = omega arith
-not-seven false false true d e g h = omega arith
-not-seven false false false true e g h = omega arith
-not-seven false false false false true g h = omega arith
-not-seven false false false false false true h = omega arith
-not-seven false false false false false false h = omega arith
+-- a number above 5 comes from what is behind 5
+above-five : (a b c d e : Bool) (rest j : ℕ) → 5 < j → refuse 1 a (refuse 2 b (refuse 3 c (refuse 4 d (refuse 5 e rest)))) ≡ j → rest ≡ j
+above-five a b c d e rest j high h =
+    let h1 = refuse-other j 1 a _ (λ q. omega arith) h .1 in
+    let h2 = refuse-other j 2 b _ (λ q. omega arith) h1 .1 in
+    let h3 = refuse-other j 3 c _ (λ q. omega arith) h2 .1 in
+    let h4 = refuse-other j 4 d _ (λ q. omega arith) h3 .1 in
+    refuse-other j 5 e rest (λ q. omega arith) h4 .1
 
 pub finder-takes-listed : FinderTakesListed
 unfolding findNumber
 finder-takes-listed p n t m =
     record {
       first = λ t2 lentS lentR h.
-          not-six (badPrime p) (badDegree n) (badLength n (t ∷ t2 ∷ lentS ∷ lentR ∷ [])) (badWord p (t ∷ t2 ∷ [])) (not (findable p n)) (hasDivisor p t2) (rw (no-divisor p n t m) at h);
+          let behind : refuse 6 false (refuse 7 (hasDivisor p t2) 0) ≡ 6
+          = above-five (badPrime p) (badDegree n) (badLength n (t ∷ t2 ∷ lentS ∷ lentR ∷ [])) (badWord p (t ∷ t2 ∷ [])) (not (findable p n)) _ 6 (omega arith) (rw (no-divisor p n t m) at h) in
+          omega (arith, refuse-other 6 7 (hasDivisor p t2) 0 (λ q. omega arith) behind .1);
       second = λ t1 lentS lentR h.
-          not-seven (badPrime p) (badDegree n) (badLength n (t1 ∷ t ∷ lentS ∷ lentR ∷ [])) (badWord p (t1 ∷ t ∷ [])) (not (findable p n)) (hasDivisor p t1) (rw (no-divisor p n t m) at h);
+          let behind : refuse 6 (hasDivisor p t1) (refuse 7 false 0) ≡ 7
+          = above-five (badPrime p) (badDegree n) (badLength n (t1 ∷ t ∷ lentS ∷ lentR ∷ [])) (badWord p (t1 ∷ t ∷ [])) (not (findable p n)) _ 7 (omega arith) (rw (no-divisor p n t m) at h) in
+          omega (arith, refuse-other 7 6 (hasDivisor p t1) 0 (λ q. omega arith) behind .1);
       both = λ t2 lentS lentR h m2 e f size.
           let first : Model p n t = model p n h t m in
           let second : Model p n t2 = model p n h t2 m2 in

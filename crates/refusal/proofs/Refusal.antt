@@ -1,5 +1,6 @@
 -- What it means that none of the refusals 1 to 4 applies (document 01, "Caused by what was sent").
---   refuse-none                the number is 0: the first condition does not apply, and what comes after it is 0
+--   refuse-other               the number is another than that of the first condition: this does not apply, and what comes after it has the number
+--   refuse-none                so it is where the number is 0
 --   Follows rest x y           the numbers x and y of a chain of conditions, with 0 and with rest at its end; follows-stays, follows-passes: a number
 --                              stays, whatever comes after it, and where there is none what comes after decides
 --   prime-given, given-prime   1 does not apply exactly to the primes up to 1,048,575
@@ -23,9 +24,12 @@ use Rattle.refusal.proofs.Lists.{lengths-given, given-lengths, below-gi
 use Rattle.refusal.specs.Refusal.{refuse, refuseSent, badPrime, largestDegree, isDegree, badDegree, badLength, badWord}
 use Rattle.modular.proofs.IsPrime.{prime-of-test, test-of-prime}
 
+pub refuse-other : (j k : ℕ) (b : Bool) (rest : ℕ) → (k ≡ j → ⊥) → refuse k b rest ≡ j → (b ≡ false) × (rest ≡ j)
+refuse-other j k true rest other h = absurd (other h)
+refuse-other j k false rest other h = (refl, h)
+
 pub refuse-none : (k : ℕ) (b : Bool) (rest : ℕ) → refuse (suc k) b rest ≡ 0 → (b ≡ false) × (rest ≡ 0)
-refuse-none k true rest h = absurd (omega arith)
-refuse-none k false rest h = (refl, h)
+refuse-none k b rest h = refuse-other 0 (suc k) b rest (λ e. omega arith) h
 
 -- x and y are the numbers of one chain of conditions, with 0 and with rest at its end: both are what comes there, or the same number
 pub data Follows (rest : ℕ) : ℕ → ℕ → Type 0 where
