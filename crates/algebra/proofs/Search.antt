@@ -115,7 +115,7 @@ module _ {A : Type 0} (test : A → Bool) where
         by_head : (b : Bool) → test y ≡ b → (Member x ys → test x ≡ true → Found ys (first test d ys)) → Found (y ∷ ys) (first test d (y ∷ ys))
         by_head true e rest = rw (first_pass y ys e) (inl refl, e)
         by_head false e rest =
-            ⊎_elim (λ f. absurd (true≢false (sym h ∙ ap test f ∙ e))) (λ l. rw (first_fail y ys e) (inr (rest l h).0, (rest l h).1)) m
+            ⊎_elim (λ f. absurd (true≢false (sym h ∙ ap test f ∙ e))) (λ l. let f : Found ys (first test d (y ∷ ys)) = rw (first_fail y ys e) (rest l h) in (inr f.0, f.1)) m
 
     pub first_unique : (xs : List A) (x : A) → Member x xs → test x ≡ true → ((y : A) → Member y xs → test y ≡ true → y ≡ x) → first test d xs ≡ x
     first_unique xs x m h only = let f : Found xs (first test d xs) = first_found xs x m h in only (first test d xs) f.0 f.1

@@ -1,6 +1,8 @@
 // Words in lists and in arrays: residues and matrices as flat arrays of 64-bit words, and the lists of words that calls are lent.
 //   list   whether every word of a list is below p
 //   copy   a list of words into an array, and back
+#![tactic(auto)]
+
 pub mod copy;
 pub mod list;
 

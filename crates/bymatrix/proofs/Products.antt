@@ -15,7 +15,7 @@ use Rattle.array.proofs.Ranges.{range_same, range_words, words_range}
 use Rattle.quotient.specs.Residue.{power, substitute}
 use Rattle.quotient.proofs.Operations.{power_words, substitute_words}
 use Rattle.bymatrix.specs.ByMatrix.{word, square, matrix_of, matrix_times}
-use Rattle.bymatrix.specs.Contracts.{Loaded}
+use Rattle.bymatrix.specs.Clauses.{Loaded}
 use Rattle.bymatrix.proofs.Places.{place_below, word-square, square-length, square_same, square_words}
 
 pub times_words : {p : ℕ} (n : ℕ) (m u : List ℕ) → 0 < p → Words p n (matrix_times p n m u)

@@ -2,7 +2,7 @@
 ghost use Rattle.std.specs.Prelude.{◌≡◌, ◌*◌, ◌^◌, ◌≤◌, length};
 ghost use Rattle.array.specs.Words.{Words};
 ghost use Rattle.bymatrix.specs.ByMatrix.{matrix_of, matrices_number, forward_output, back_output};
-ghost use Rattle.bymatrix.specs.Contracts.{Accepted};
+ghost use Rattle.bymatrix.specs.Clauses.{Accepted};
 
 use crate::rows::store_rows;
 use array::Word;

@@ -2,6 +2,8 @@
 //   build     the public call `matrices`, with its refusals
 //   convert   the public call `convert_by_matrix`, with its refusals
 //   rows      a matrix row after row in a list, into an array and out of it
+#![tactic(auto)]
+
 pub mod build;
 pub mod convert;
 mod rows;

@@ -3,7 +3,7 @@ ghost use Rattle.std.specs.Prelude.{◌≡◌, ◌*◌, ◌≤◌, length, repli
 ghost use Rattle.array.specs.Array.{entry, Square};
 ghost use Rattle.array.specs.Words.{word_bound};
 ghost use Rattle.bymatrix.specs.ByMatrix.{square};
-ghost use Rattle.bymatrix.specs.Contracts.{Loaded};
+ghost use Rattle.bymatrix.specs.Clauses.{Loaded};
 
 use array::Word;
 

@@ -6,7 +6,7 @@ use array::Word;
 
 // The reader's answer; refused, every field but the number is 0.
 #[repr(C)]
-#[derive(Drop)]
+#[derive(Clone, Copy)]
 pub struct CardValue {
     pub number: u32,
     pub p: u32,

@@ -5,6 +5,8 @@
 //   tables     tables stored as differences
 //   cards      the reader and the writer of cards
 //   sessions   the session, as a value of the crate cvalue
+#![tactic(auto)]
+
 pub mod cards;
 pub mod field;
 pub mod models;

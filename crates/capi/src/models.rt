@@ -6,7 +6,7 @@ use array::Word;
 
 // The answer of the first call; refused, the count is 0.
 #[repr(C)]
-#[derive(Drop)]
+#[derive(Clone, Copy)]
 pub struct CountValue {
     pub number: u32,
     pub count: u32,

@@ -49,12 +49,12 @@ fields_skip xs bs i j w zero e = refl
 fields_skip xs bs i j w (suc k) e =
     ap₂ (λ (a : ℕ) (r : List ℕ). a ∷ r) (field_skip xs bs i j w e) (fields_skip xs bs (i + w) (j + w) w k (omega arith))
 
-pub fields_here : {k : ℕ} {words : List ℕ} (w : ℕ) (bs : List ℕ) → Words (2 ^ w) k words → fields_at (all_bits w words ++ bs) 0 w k ≡ words
+pub fields_here : (w : ℕ) {k : ℕ} {words : List ℕ} (bs : List ℕ) → Words (2 ^ w) k words → fields_at (all_bits w words ++ bs) 0 w k ≡ words
 unfolding fields_at all_bits
 fields_here w bs none = refl
 fields_here w bs (more {a = a} {n = k} {u = words} h l) =
-    rw append_assoc
-    (ap₂ (λ (b : ℕ) (r : List ℕ). b ∷ r)
+    ap (λ (l : List ℕ). fields_at l 0 w (suc k)) (append_assoc (bits w a) (all_bits w words) bs)
+    ∙ (ap₂ (λ (b : ℕ) (r : List ℕ). b ∷ r)
     (field_here w a (all_bits w words ++ bs) h)
     (fields_skip (bits w a) (all_bits w words ++ bs) 0 (0 + w) w k (omega (arith, bits-length w a)) ∙ fields_here w bs l))
 

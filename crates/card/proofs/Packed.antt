@@ -51,7 +51,7 @@ next_eight_words : {m : ℕ} {bs : List ℕ} → Words 2 m bs → Words 2 8 (nex
 unfolding next_eight
 next_eight_words b = take_words (append_words b (zeros_words 8 (lit< tt))) 8 (omega arith)
 
-bytes_below : {m : ℕ} {bs : List ℕ} (k : ℕ) → Words 2 m bs → Bytes (bytes k bs)
+bytes_below : (k : ℕ) {m : ℕ} {bs : List ℕ} → Words 2 m bs → Bytes (bytes k bs)
 unfolding bytes next_eight
 bytes_below zero b = tt
 bytes_below (suc k) b = (number_below (next_eight_words b), bytes_below k (drop_words b 8))
@@ -67,7 +67,7 @@ first_and_rest (suc n) r m (b ∷ bs) l h =
     let e : n + m - length bs ≡ suc n + m - suc (length bs) = omega arith in
     ap (λ (t : List ℕ). b ∷ t) (first_and_rest n r m bs (omega arith) (omega arith) ∙ ap (λ k. bs ++ replicate k 0) e)
 
-unpacked-bytes : {m : ℕ} (k : ℕ) (bs : List ℕ) → Words 2 m bs → length bs ≤ 8 * k → unpacked (bytes k bs) ≡ bs ++ replicate (8 * k - length bs) 0
+unpacked-bytes : (k : ℕ) {m : ℕ} (bs : List ℕ) → Words 2 m bs → length bs ≤ 8 * k → unpacked (bytes k bs) ≡ bs ++ replicate (8 * k - length bs) 0
 unfolding unpacked bytes next_eight
 unpacked-bytes zero [] b h = refl
 unpacked-bytes zero (x ∷ bs) b h = absurd (omega arith)

@@ -5,7 +5,7 @@ ghost use Rattle.modular.specs.Prime.{largest_prime};
 ghost use Rattle.card.specs.Card.{layout, header_bits, is_over, width as width_of, word_count};
 
 // A header: zero bits, p, then n − 1 and kind in 4 bits each, and zero bits that count as fill.
-#[derive(Drop)]
+#[derive(Clone, Copy)]
 pub struct Layout {
     pub before: usize,
     pub digits: usize,

@@ -12,7 +12,7 @@ use Rattle.array.specs.Digits.{digits}
 use Rattle.refusal.specs.Refusal.{refuse, bad_prime, bad_degree}
 use Rattle.refusal.proofs.Refusal.{refuse_none, prime_bounds, degree_given, Follows, passed, follows_next, follows_stays, follows_passes}
 use Rattle.refusal.proofs.Written.{output_new, output_old}
-use Rattle.sieve.specs.Contracts.{Sieved}
+use Rattle.sieve.specs.Clauses.{Sieved}
 use Rattle.catalogue.specs.Catalogue.{most_polynomials, models, count_number, model_count, list_number, list_output}
 use Rattle.catalogue.specs.Marks.{unmarked}
 use Rattle.catalogue.proofs.Unmarked.{unmarked-models, unmarked_count}

@@ -14,7 +14,7 @@ use Rattle.algebra.proofs.Search.{range-append, range_bounds}
 use Rattle.array.specs.Digits.{digits}
 use Rattle.quotient.specs.DivisorTest.{has_divisor}
 use Rattle.quotient.proofs.Numbering.{residues-digits}
-use Rattle.sieve.specs.Contracts.{Sieved, bit}
+use Rattle.sieve.specs.Clauses.{Sieved, bit}
 use Rattle.catalogue.specs.Catalogue.{models}
 use Rattle.catalogue.specs.Marks.{unmarked}
 use Rattle.catalogue.proofs.Filter.{filter-append, filter_one, filter_same, filter_map}

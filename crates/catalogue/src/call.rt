@@ -9,7 +9,7 @@ use sieve::digits::power;
 use sieve::sieve::sieve;
 
 // The answer of `count_models`: refused, the count is 0.
-#[derive(Drop)]
+#[derive(Clone, Copy)]
 pub struct Count {
     pub number: u32,
     pub count: u32,

@@ -2,6 +2,8 @@
 //   call      the public calls `count_models` and `list_models`
 //   number    the refusals by p and n
 //   marks     what the sieve left unmarked: how many there are, and their words
+#![tactic(auto)]
+
 pub mod call;
 mod marks;
 mod number;

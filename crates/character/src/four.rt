@@ -6,7 +6,7 @@ ghost use Rattle.character.specs.Four.{Product, Step, Low};
 use modular::barrett::Barrett;
 
 // Four numbers.
-#[derive(Drop)]
+#[derive(Clone, Copy)]
 pub struct Four {
     pub a: u64,
     pub b: u64,

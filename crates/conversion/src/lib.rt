@@ -2,6 +2,8 @@
 //   images    the images of a table's groups under the map of a direction
 //   number    the number of a conversion
 //   convert   forward and back, without the ledger
+#![tactic(auto)]
+
 pub mod convert;
 pub mod images;
 pub mod number;

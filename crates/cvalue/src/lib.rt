@@ -4,6 +4,8 @@
 //   tables     the open table
 //   sessions   the session of a value, and what it counts as
 //   answers    the answers of calls
+#![tactic(auto)]
+
 pub mod answers;
 mod holdings;
 mod records;
@@ -14,7 +16,7 @@ use array::Word;
 
 // A record: direction 0 is forward, 1 back.
 #[repr(C)]
-#[derive(Drop)]
+#[derive(Clone, Copy)]
 pub struct RecordValue {
     pub direction: u32,
     pub residues: u32,
@@ -22,7 +24,7 @@ pub struct RecordValue {
 
 // What is held: state 0 is empty, 1 loaded (p, n, T1, T2), 2 paired (also S, R).
 #[repr(C)]
-#[derive(Drop)]
+#[derive(Clone, Copy)]
 pub struct HeldValue {
     pub state: u32,
     pub p: u32,
@@ -37,7 +39,7 @@ pub struct HeldValue {
 // so far; and what the waiting session holds. C's header has the fields of `held` as fields of its own, which lie in the same places, and calls the
 // table `open`, which is a word of antt.
 #[repr(C)]
-#[derive(Drop)]
+#[derive(Clone, Copy)]
 pub struct SessionValue {
     pub held: HeldValue,
     pub records: u32,
@@ -49,7 +51,7 @@ pub struct SessionValue {
 
 // A session call's answer: the number and the next session; refused, the session that was taken.
 #[repr(C)]
-#[derive(Drop)]
+#[derive(Clone, Copy)]
 pub struct StepValue {
     pub number: u32,
     pub session: SessionValue,

@@ -1,6 +1,6 @@
 -- Loops that write the words of a list xs one after another into a list w of its length.
 use Rattle.std.proofs.Common.{◌≡◌, ℕ, ◌+◌, ◌<◌, ◌≤◌, false, ltb, List, length, get_or, set, sym, ap, ◌∙◌, ⊎_elim, eq-or-lt_of_le, arith, length-set, get_or-set_other, get_or-set_same, ext_get_or, ltb-false}
-use Rattle.differences.specs.Contracts.{Begun}
+use Rattle.differences.specs.Clauses.{Begun}
 
 pub begun_none : (xs w : List ℕ) → length w ≡ length xs → Begun 0 xs w
 begun_none xs w size = record { size = size; words = λ i l h. absurd (omega arith) }

@@ -2,6 +2,8 @@
 //   number     the refusals of this call and of `restore`, which the crate restoring has
 //   store      the public call `differences`
 //   wrapped    sums and differences of words, wrapped at 32 bits
+#![tactic(auto)]
+
 pub mod number;
 pub mod store;
 pub mod wrapped;

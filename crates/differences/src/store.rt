@@ -1,6 +1,6 @@
 // A table as differences. On a refusal the list lent for them is as found.
 ghost use Rattle.std.specs.Prelude.{◌≡◌, ◌-◌, ◌<◌, ◌≤◌, length, slice_index};
-ghost use Rattle.differences.specs.Contracts.{Begun};
+ghost use Rattle.differences.specs.Clauses.{Begun};
 ghost use Rattle.differences.specs.Differences.{differences, differences_number, differences_output};
 
 use crate::number::differences_number;

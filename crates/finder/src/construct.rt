@@ -18,7 +18,7 @@ use tower::exponent::exponent;
 use tower::generator::generator;
 
 // The number 5, 6 or 7 of a refusal, or 0 with S and R.
-#[derive(Drop)]
+#[derive(Clone, Copy)]
 pub struct Construction {
     pub number: u32,
     pub forward: [u64; 16],

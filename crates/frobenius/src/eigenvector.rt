@@ -13,7 +13,7 @@ use roots::radicand::is_radicand;
 use scalar::vector::{is_constant, normalise};
 
 // Whether T has no monic divisor of degree 1 to n − 1; and then an eigenvector v whose first word that is not 0 is 1, and the constant v^n.
-#[derive(Drop)]
+#[derive(Clone, Copy)]
 pub struct Normalised {
     pub found: bool,
     pub vector: [u64; 16],

@@ -3,6 +3,8 @@
 //   eigenvector   an eigenvector, which also decides whether a modulus has a proper divisor
 //   scaling       its multiple whose n-th power is a given number
 //   image         the polynomial that takes one residue to X, at another residue
+#![tactic(auto)]
+
 pub mod eigenvector;
 pub mod image;
 mod kernel;

@@ -1,6 +1,8 @@
 // What a session holds: nothing, two models, or two models and a pair (document 01, "The session").
 //   view      what a value counts as
 //   value     the values that the calls make
+#![tactic(auto)]
+
 pub mod value;
 pub mod view;
 
@@ -13,7 +15,7 @@ use array::Word;
 pub const DEGREE: usize = refusal::sent::DEGREE as usize;
 
 // Nothing; p, n, T1 and T2; also S and R.
-#[derive(Drop)]
+#[derive(Clone, Copy)]
 pub enum State {
     Empty,
     Loaded,
@@ -21,7 +23,7 @@ pub enum State {
 }
 
 // The first n words of each array count, and of a state that does not have an item nothing of it counts.
-#[derive(Drop)]
+#[derive(Clone, Copy)]
 pub struct Held {
     pub state: State,
     pub p: u32,

@@ -4,6 +4,8 @@
 //   rabin        the test
 //   conjugate    X^(p^k) modulo T, by the matrix of u ↦ u^p
 //   inverse      whether a residue has an inverse
+#![tactic(auto)]
+
 pub mod call;
 mod conjugate;
 mod inverse;

@@ -2,6 +2,8 @@
 // these functions, so they state what they require.
 //   total    the residues of the records of one direction, together
 //   report   the report's text and its length
+#![tactic(auto)]
+
 pub mod report;
 pub mod total;
 
@@ -9,21 +11,21 @@ ghost use Rattle.std.specs.Prelude.{◌≡◌, ◌<◌};
 ghost use Rattle.ledger.specs.Ledger.{most_records, new_ledger, added};
 
 // The direction of a conversion.
-#[derive(Drop)]
+#[derive(Clone, Copy)]
 pub enum Direction {
     Forward,
     Back,
 }
 
 // A conversion that succeeded: its direction, and how many residues it had.
-#[derive(Drop)]
+#[derive(Clone, Copy)]
 pub struct Record {
     pub direction: Direction,
     pub residues: u32,
 }
 
 // The first `count` records count.
-#[derive(Drop)]
+#[derive(Clone, Copy)]
 pub struct Ledger {
     pub count: u32,
     pub records: [Record; Ledger::RECORDS],

@@ -10,7 +10,7 @@ use modular::barrett::Barrett;
 use modular::word::sub;
 
 // A regular system has its one solution in `vector`, a singular one a vector that is not 0 and that the matrix takes to 0; zeros after n words.
-#[derive(Drop)]
+#[derive(Clone, Copy)]
 pub struct Solution {
     pub regular: bool,
     pub vector: [u64; 16],

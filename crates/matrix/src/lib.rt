@@ -4,6 +4,8 @@
 //   multiples   the matrix of u ↦ typeof.u.S, by which many powers are worked out
 //   product     the product of a matrix with a residue
 //   words       the product of a matrix with a list of words
+#![tactic(auto)]
+
 pub mod frobenius;
 pub mod multiples;
 pub mod powers;

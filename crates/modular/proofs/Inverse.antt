@@ -53,7 +53,8 @@ first_cases test d (x ∷ xs) = go (test x) refl (first_cases test d xs)
   where
     go : (b : Bool) → test x ≡ b → Member (first test d xs) xs ⊎ (first test d xs ≡ d) → Member (first test d (x ∷ xs)) (x ∷ xs) ⊎ (first test d (x ∷ xs) ≡ d)
     go true e rest = inl (inl (first_pass test d x xs e))
-    go false e rest = rw (first_fail test d x xs e) (⊎_elim (λ m. inl (inr m)) inr rest)
+    go false e rest =
+        let l : Member (first test d (x ∷ xs)) xs ⊎ (first test d (x ∷ xs) ≡ d) = rw (first_fail test d x xs e) rest in ⊎_elim (λ m. inl (inr m)) inr l
 
 pub inverse_bound : (p a : ℕ) → 0 < p → inverse p a < p
 unfolding inverse

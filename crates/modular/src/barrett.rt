@@ -5,7 +5,7 @@ ghost use Rattle.modular.specs.Barrett.{Reduces};
 
 // A divisor p with its reciprocal 2^(32 + shift) / p. The shift leaves five bits of p, so that the reciprocal and what is left of a word after the
 // shift have at most 32 bits.
-#[derive(Drop)]
+#[derive(Clone, Copy)]
 pub struct Barrett {
     pub p: u64,
     pub shift: u32,

@@ -2,6 +2,8 @@
 //   prime     the test for primes
 //   word      sum, difference, remainder, product, power and inverse
 //   barrett   reduction of sums of products
+#![tactic(auto)]
+
 pub mod barrett;
 pub mod prime;
 pub mod word;

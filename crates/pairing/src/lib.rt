@@ -2,6 +2,8 @@
 //   load      empty to loaded
 //   propose   loaded to paired with a pair that the checker accepts
 //   find      loaded to paired with the finder's pair
+#![tactic(auto)]
+
 pub mod find;
 pub mod load;
 pub mod propose;
@@ -9,7 +11,7 @@ pub mod propose;
 use held::Held;
 
 // A call's answer: 0 or the number of the refusal, and the next value.
-#[derive(Drop)]
+#[derive(Clone, Copy)]
 pub struct HeldStep {
     pub number: u32,
     pub held: Held,

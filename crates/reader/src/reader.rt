@@ -12,7 +12,7 @@ use card::layout::{bit_count, digit, header_bits, layout_of, width, word_count};
 use modular::prime::is_prime;
 
 // What a card says: 0 or the number of the refusal, and p, n and kind, which are 0 where the card is refused.
-#[derive(Drop)]
+#[derive(Clone, Copy)]
 pub struct ReadCard {
     pub number: u32,
     pub p: u32,

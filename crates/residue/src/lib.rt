@@ -2,6 +2,8 @@
 //   product      the product with delayed reduction, on which that of the ring rests
 //   ring         product, power and substitution
 //   difference   u − v
+#![tactic(auto)]
+
 pub mod difference;
 mod product;
 pub mod ring;

@@ -1,2 +1,2 @@
 -- The definitions of the contracts between the functions that restore a table.
-pub mod Contracts
+pub mod Clauses

@@ -1,6 +1,6 @@
 // The columns of a table: column j has the words j, j + n, j + 2·n, …. A word is restored as the sum of its column up to it.
 ghost use Rattle.std.specs.Prelude.{◌≡◌, ◌+◌, ◌≤◌, length};
-ghost use Rattle.restoring.specs.Contracts.{Whole, Columns, width};
+ghost use Rattle.restoring.specs.Clauses.{Whole, Columns, width};
 ghost use Rattle.differences.specs.Differences.{restored};
 
 use crate::eight::{Eight, add_eight, store_eight};

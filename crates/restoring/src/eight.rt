@@ -1,12 +1,12 @@
 // Eight words that stand side by side: four and the next four.
 ghost use Rattle.std.specs.Prelude.{[], ◌∷◌, ◌≡◌, ◌+◌, ◌≤◌, length};
 ghost use Rattle.std.proofs.lemmas.List.Edits.{sets};
-ghost use Rattle.restoring.specs.Contracts.{added};
+ghost use Rattle.restoring.specs.Clauses.{added};
 
 use crate::four::{Four, add_four, store_four};
 use array::Word;
 
-#[derive(Drop)]
+#[derive(Clone, Copy)]
 pub struct Eight {
     pub left: Four,
     pub right: Four,

@@ -1,12 +1,12 @@
 // Four words that stand side by side, which a processor adds at once.
 ghost use Rattle.std.specs.Prelude.{[], ◌∷◌, ◌≡◌, ◌+◌, ◌≤◌, length};
 ghost use Rattle.std.proofs.lemmas.List.Edits.{sets};
-ghost use Rattle.restoring.specs.Contracts.{added};
+ghost use Rattle.restoring.specs.Clauses.{added};
 
 use array::Word;
 use differences::wrapped::plus;
 
-#[derive(Drop)]
+#[derive(Clone, Copy)]
 pub struct Four {
     pub a: Word,
     pub b: Word,

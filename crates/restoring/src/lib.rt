@@ -3,6 +3,8 @@
 //   columns    the columns of a table, restored one, four or eight at a time
 //   four       four words that stand side by side, added to and stored together
 //   eight      eight words, likewise
+#![tactic(auto)]
+
 mod columns;
 mod eight;
 mod four;

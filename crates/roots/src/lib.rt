@@ -2,6 +2,8 @@
 //   unity      ζ, among the roots of unity
 //   radicand   a, with a^((p − 1)/n) = ζ
 //   root       the smallest n-th root of a ratio
+#![tactic(auto)]
+
 pub mod radicand;
 pub mod root;
 pub mod unity;

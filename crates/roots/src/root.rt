@@ -54,7 +54,7 @@ fn adjust(p: u64, k: u64, x: u64, h: u64, q: u64, y: u64) -> u64
 
 // What the search for roots needs of p and n: let p − 1 = n·m·d, m prime to n and every prime of d one of n. The exponent is the inverse of n modulo m, and the
 // generator g^m, for a g of which g^((p − 1)/n) has order n: it has order n·d. Nothing is promised of these numbers but their size.
-#[derive(Drop)]
+#[derive(Clone, Copy)]
 pub struct Group {
     pub exponent: u64,
     pub generator: u64,

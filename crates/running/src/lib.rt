@@ -2,6 +2,8 @@
 //   begin   opens a table in one direction
 //   feed    converts a part
 //   end     closes it: the record of all its residues, and the waiting session
+#![tactic(auto)]
+
 pub mod begin;
 pub mod end;
 pub mod feed;

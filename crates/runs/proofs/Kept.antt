@@ -155,7 +155,7 @@ kept_next h call_clear = with_work_kept (kept_counted h) new_work (is_new, no_ta
 pub kept_run : {x : Session} → Kept x → (cs : List Call) → Kept (run x cs)
 unfolding run
 kept_run h [] = h
-kept_run h (c ∷ cs) = kept_run (kept_next h c) cs
+kept_run {x} h (c ∷ cs) = kept_run {x = next x c} (kept_next h c) cs
 
 pub kept_new : Kept new_session
 kept_new = record { reached = is_new; few = omega arith; long = refl; around = no_table }

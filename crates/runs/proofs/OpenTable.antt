@@ -163,7 +163,7 @@ run_stays h e f [] a = (refl, f ∙ fed_none e)
 run_stays {x} h e f (c ∷ cs) a =
     let (here, later) = (and-eq-true_iff (leaves_open c) (all leaves_open cs)).0 a in
     let (held, table) = next_stays h e f c here in
-    let (held_later, table_later) = run_stays (kept_next h c) _ table cs later in
+    let (held_later, table_later) = run_stays {x = next x c} (kept_next h c) _ table cs later in
     (held_later ∙ held, table_later ∙ fed_more e (fed_by x c) (fed_in (next x c) cs))
 
 pub table_keeps_pair : TableKeepsPair

@@ -167,7 +167,7 @@ module _ (d : Direction) where
       → total d (records_of (run x cs).ledger) ≡ recorded_or_open x (ended_in cs) + counted_in d x cs
   unfolding run counted_in ended_in recorded_or_open
   run_grows h [] = omega arith
-  run_grows {x} h (c ∷ cs) = omega (arith, run_grows (kept_next h c) cs, grows h (ended_in cs) c)
+  run_grows {x} h (c ∷ cs) = omega (arith, run_grows {x = next x c} (kept_next h c) cs, grows h (ended_in cs) c)
 
   total_is : (cs : List Call) → total d (records_of (run new_session cs).ledger) ≡ counted_in d new_session cs
   unfolding total recorded_or_open open_residues

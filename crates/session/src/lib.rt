@@ -4,6 +4,8 @@
 //   holding   Session::load, Session::propose and Session::find
 //   tables    Session::forward and Session::back; Session::begin, Session::feed and Session::end for a table in parts
 //   report    Session::report and Session::report_length: the ledger's text
+#![tactic(auto)]
+
 pub mod holding;
 mod report;
 mod tables;
@@ -16,14 +18,14 @@ use work::counted::counted;
 use work::{Work, WorkStep};
 
 // All but the ledger, and the ledger with the conversions that succeeded and the tables that were ended.
-#[derive(Drop)]
+#[derive(Clone, Copy)]
 pub struct Session {
     pub work: Work,
     pub ledger: Ledger,
 }
 
 // A call's answer: 0 or the number of the refusal, and the next session.
-#[derive(Drop)]
+#[derive(Clone, Copy)]
 pub struct Step {
     pub number: u32,
     pub session: Session,

@@ -2,6 +2,8 @@
 //   coefficient   a word as a signed number, and coefficients in columns
 //   lines         the lines of one list
 //   print         the call
+#![tactic(auto)]
+
 mod coefficient;
 mod lines;
 pub mod print;

@@ -1,3 +1,3 @@
 -- The definitions of the contracts between the functions of the sieve.
 pub mod Multiples
-pub mod Contracts
+pub mod Clauses

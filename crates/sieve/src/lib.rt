@@ -6,6 +6,8 @@
 //   lows        the lower words of these multiples, as numbers, by their higher words
 //   plane       one of these words
 //   digits      powers of p, and the digits of a number
+#![tactic(auto)]
+
 pub mod digits;
 mod lows;
 mod plane;

@@ -2,7 +2,7 @@
 ghost use Rattle.std.specs.Prelude.{◌≡◌, ◌+◌, ◌*◌, ◌^◌, ◌≤◌, ◌<◌, length, take};
 ghost use Rattle.array.specs.Array.{Holds};
 ghost use Rattle.modular.specs.Barrett.{Reduces};
-ghost use Rattle.sieve.specs.Contracts.{WordsBelow, Collected, Lows};
+ghost use Rattle.sieve.specs.Clauses.{WordsBelow, Collected, Lows};
 
 use crate::plane::{add, narrow, plane};
 use modular::barrett::Barrett;

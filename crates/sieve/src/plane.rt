@@ -4,7 +4,7 @@ ghost use Rattle.std.specs.Prelude.{◌⊎◌, ◌≡◌, ◌+◌, ◌*◌, ◌%
 ghost use Rattle.array.specs.Array.{Holds};
 ghost use Rattle.matrix.specs.Matrix.{multiple};
 ghost use Rattle.modular.specs.Barrett.{Reduces};
-ghost use Rattle.sieve.specs.Contracts.{WordsBelow, Block, Extended, Plane};
+ghost use Rattle.sieve.specs.Clauses.{WordsBelow, Block, Extended, Plane};
 
 use modular::barrett::Barrett;
 use residue::ring::times_x;

@@ -2,7 +2,7 @@
 ghost use Rattle.std.specs.Prelude.{◌≡◌, ◌+◌, ◌*◌, ◌^◌, ◌≤◌, ◌<◌, length};
 ghost use Rattle.array.specs.Array.{padded};
 ghost use Rattle.array.specs.Digits.{digits};
-ghost use Rattle.sieve.specs.Contracts.{WordsBelow, Struck, StruckBy, Room};
+ghost use Rattle.sieve.specs.Clauses.{WordsBelow, Struck, StruckBy, Room};
 
 use crate::digits::{power, write_digits};
 use crate::lows::lows;

@@ -4,6 +4,8 @@
 //   hexadecimal   bytes in upper-case hexadecimal
 //   decimal       numbers in decimal
 //   columns       numbers with their sign, right-justified in columns, and blanks
+#![tactic(auto)]
+
 pub mod bytes;
 pub mod columns;
 pub mod decimal;

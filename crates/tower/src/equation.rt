@@ -15,7 +15,7 @@ use scalar::shift::minus;
 use scalar::vector::scale;
 
 // Whether a residue was found, and the residue.
-#[derive(Drop)]
+#[derive(Clone, Copy)]
 pub struct Solution {
     pub found: bool,
     pub vector: [u64; 16],

@@ -2,6 +2,8 @@
 //   exponent    the k with n = p^k
 //   equation    the solution of v^p = v + a with constant coefficient 0
 //   generator   the rounds, which also decide whether a modulus has a proper divisor
+#![tactic(auto)]
+
 mod equation;
 pub mod exponent;
 pub mod generator;

@@ -10,7 +10,7 @@ use held::{Held, State};
 use ledger::Ledger;
 
 // What a value counts as: whether it is itself, or else a new one, without records.
-#[derive(Drop)]
+#[derive(Clone, Copy)]
 pub struct CountsAs {
     pub valid: bool,
     pub work: Work,

@@ -2,6 +2,8 @@
 //   counted     what a value counts as
 //   addressed   the session that load, propose and find act on
 //   number      the numbers by where a session is
+#![tactic(auto)]
+
 pub mod addressed;
 pub mod counted;
 pub mod number;
@@ -13,14 +15,14 @@ use held::Held;
 use ledger::Record;
 
 // No table is open; or one is, and this is the record that its end adds: its direction, and the residues fed so far.
-#[derive(Drop)]
+#[derive(Clone, Copy)]
 pub enum Table {
     Closed,
     Open(Record),
 }
 
 // The waiting session counts while a table is open.
-#[derive(Drop)]
+#[derive(Clone, Copy)]
 pub struct Work {
     pub held: Held,
     pub table: Table,
@@ -28,14 +30,14 @@ pub struct Work {
 }
 
 // A call's answer: 0 or the number of the refusal, and, where it is 0, the next value.
-#[derive(Drop)]
+#[derive(Clone, Copy)]
 pub struct WorkStep {
     pub number: u32,
     pub work: Work,
 }
 
 // The answer of a call that adds a record to the ledger where its number is 0.
-#[derive(Drop)]
+#[derive(Clone, Copy)]
 pub struct RecordStep {
     pub number: u32,
     pub work: Work,

@@ -19,7 +19,7 @@ use Rattle.refusal.specs.Refusal.{bad_length}
 use Rattle.refusal.proofs.Lists.{lengths_given}
 use Rattle.refusal.proofs.Written.{output_new, output_old}
 use Rattle.bymatrix.specs.ByMatrix.{square, matrix_of, matrices_number, forward_output, back_output}
-use Rattle.bymatrix.specs.Contracts.{Accepted}
+use Rattle.bymatrix.specs.Clauses.{Accepted}
 use Rattle.bymatrix.proofs.Products.{powers_matrix}
 
 -- w is the length that is asked for

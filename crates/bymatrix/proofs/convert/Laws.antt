@@ -18,7 +18,7 @@ use Rattle.table.proofs.Convertible.{table_given}
 use Rattle.table.proofs.Groups.{table_groups, groups_same}
 use Rattle.table.proofs.number.Laws.{lengths_follow}
 use Rattle.bymatrix.specs.ByMatrix.{matrix_times, by_matrix, by_matrix_number, by_matrix_output}
-use Rattle.bymatrix.specs.Contracts.{Loaded}
+use Rattle.bymatrix.specs.Clauses.{Loaded}
 use Rattle.bymatrix.proofs.Given.{Ready, ready_given}
 use Rattle.bymatrix.proofs.Products.{loaded_rows, loaded_times}
 

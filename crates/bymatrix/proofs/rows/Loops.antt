@@ -15,7 +15,7 @@ use Rattle.array.specs.Words.{word_bound}
 use Rattle.array.proofs.Painted.{painted, painted_none, painted_turn}
 use Rattle.array.proofs.Ranges.{painted-range, zeros_word}
 use Rattle.bymatrix.specs.ByMatrix.{word, square}
-use Rattle.bymatrix.specs.Contracts.{Loaded}
+use Rattle.bymatrix.specs.Clauses.{Loaded}
 use Rattle.bymatrix.proofs.Places.{row_of, column_of, place_below}
 use Rattle.bymatrix.proofs.rows.Counters.{Counters, quotient, remainder, row_less, index_less}
 

@@ -2,7 +2,7 @@
 use Rattle.std.proofs.Common.{◌≡◌, ℕ, ◌+◌, ◌-◌, ◌%◌, ◌<◌, ◌≤◌, List, length, get_or, set, sym, ap, ◌∙◌}
 use Rattle.array.specs.Words.{word_bound}
 use Rattle.refusal.proofs.Written.{output_new, output_old}
-use Rattle.differences.specs.Contracts.{Begun}
+use Rattle.differences.specs.Clauses.{Begun}
 use Rattle.differences.specs.Differences.{minus, differences, differences_number, differences_output}
 use Rattle.differences.proofs.Begun.{begun_turn, begun_done, begun_other}
 use Rattle.differences.proofs.Cancel.{minus_unique}

@@ -9,7 +9,7 @@ use native.Mathlib.Nat as Nat
 use native.Mathlib.Omega.{arith}
 use lib.ListN.{length, get_or}
 use lib.Seq.{ext_get_or}
-use Rattle.restoring.specs.Contracts.{Whole, Columns, width}
+use Rattle.restoring.specs.Clauses.{Whole, Columns, width}
 use Rattle.differences.specs.Differences.{restored}
 use Rattle.differences.proofs.Words.{restored-length}
 use Rattle.restoring.proofs.columns.Some.{width_bounds}

@@ -7,7 +7,7 @@ use native.Mathlib.Omega.{arith}
 use borrow.Author.Tests.{lt-ltb, le-ltb}
 use lib.ListN.{length}
 use Rattle.differences.specs.Differences.{restored}
-use Rattle.restoring.specs.Contracts.{Columns, width}
+use Rattle.restoring.specs.Clauses.{Columns, width}
 
 pub width_one : (n : ℕ) → n < 4 → 1 ≡ width n
 unfolding width

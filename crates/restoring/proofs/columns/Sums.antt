@@ -12,7 +12,7 @@ use lib.ListN.{length, get_or, set, replicate, length-replicate}
 use lib.Seq.{sets, length-sets}
 use Rattle.array.specs.Words.{word_bound}
 use Rattle.array.proofs.Ranges.{zeros_word}
-use Rattle.restoring.specs.Contracts.{Whole, added, Columns}
+use Rattle.restoring.specs.Clauses.{Whole, added, Columns}
 use Rattle.differences.specs.Differences.{restored}
 use Rattle.differences.proofs.Words.{restored_start, restored_next}
 use Rattle.restoring.proofs.columns.Places.{column_on, same_column, in_row, row_fits}

@@ -4,7 +4,7 @@ use mathlib.Core.List.{List, [], ◌∷◌, ◌++◌}
 use Prim.Native.Nat.{ℕ, suc, ◌+◌}
 use native.Mathlib.Omega.{arith}
 use lib.Seq.{sets}
-use Rattle.restoring.specs.Contracts.{added}
+use Rattle.restoring.specs.Clauses.{added}
 
 module _ (k a b c d e f g h : ℕ) where
   four_on : k + 4 ≡ suc (suc (suc (suc k)))

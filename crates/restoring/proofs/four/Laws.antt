@@ -6,7 +6,7 @@ use native.Mathlib.Omega.{arith}
 use lib.ListN.{length, get_or, set, length-set}
 use lib.Seq.{sets}
 use Rattle.array.specs.Words.{word_bound}
-use Rattle.restoring.specs.Contracts.{added}
+use Rattle.restoring.specs.Clauses.{added}
 
 module _ (k : ℕ) (out : List ℕ) (inside : k + 4 ≤ length out) (a : ℕ) where
   pub second_inside : k + 1 < length (set out k a)

@@ -4,7 +4,7 @@ use mathlib.Core.List.{List}
 use Prim.Native.Nat.{ℕ}
 use Rattle.refusal.proofs.Written.{output_new, output_old}
 use Rattle.differences.specs.Differences.{restored, differences_number, restore_output}
-use Rattle.restoring.specs.Contracts.{Whole}
+use Rattle.restoring.specs.Clauses.{Whole}
 use Rattle.differences.proofs.Given.{stored_given}
 
 module _ (n number : ℕ) (table out : List ℕ) (e : number ≡ differences_number n table out) where

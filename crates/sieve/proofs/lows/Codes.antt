@@ -16,7 +16,7 @@ use Rattle.array.proofs.Words.{words_length, drop_words}
 use Rattle.matrix.specs.Matrix.{multiple}
 use Rattle.matrix.proofs.MultiplicationMatrix.{multiple_words}
 use Rattle.quotient.proofs.SumOfPowers.{sum_word}
-use Rattle.sieve.specs.Contracts.{WordsBelow, Plane, Collected, Lows}
+use Rattle.sieve.specs.Clauses.{WordsBelow, Plane, Collected, Lows}
 use Rattle.sieve.specs.Multiples.{times, lows}
 use Rattle.sieve.proofs.LowerWords.{times_words, lows_words}
 use Rattle.sieve.proofs.Powers.{half_most, lower_most, prime_most}

@@ -10,7 +10,7 @@ use native.Mathlib.Nat as Nat
 use native.Mathlib.Omega.{arith}
 use lib.ListN.{length, get_or, set, length-set}
 use lib.Seq.{get_or-set_same, get_or-set_other}
-use Rattle.sieve.specs.Contracts.{WordsBelow, Block, Extended}
+use Rattle.sieve.specs.Clauses.{WordsBelow, Block, Extended}
 
 pub last_or_below : (y x : ℕ) → y < x + 1 → (y ≡ x) ⊎ (y < x)
 last_or_below y x l = let le : y ≤ x = omega arith in Nat.eq-or-lt_of_le le

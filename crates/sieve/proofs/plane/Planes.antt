@@ -17,7 +17,7 @@ use Rattle.matrix.proofs.MultiplicationMatrix.{multiple_words}
 use Rattle.quotient.specs.Residue.{times_x}
 use Rattle.quotient.proofs.Operations.{constant-zero, scale_words, times_x_words}
 use Rattle.quotient.proofs.SumOfPowers.{sum_word, scale_word}
-use Rattle.sieve.specs.Contracts.{WordsBelow, Extended, Plane}
+use Rattle.sieve.specs.Clauses.{WordsBelow, Extended, Plane}
 use Rattle.sieve.specs.Multiples.{times}
 use Rattle.sieve.proofs.LowerWords.{times_words, times_none, times_next}
 

@@ -16,7 +16,7 @@ use Rattle.quotient.specs.Divisor.{HasDivisor}
 use Rattle.quotient.specs.DivisorTest.{has_divisor}
 use Rattle.quotient.proofs.Cofactor.{half_degree}
 use Rattle.quotient.proofs.Decision.{has_divisor_test, irreducible_test}
-use Rattle.sieve.specs.Contracts.{bit, Sieved, SievedBelow, Progress, Outside, Room, Clear}
+use Rattle.sieve.specs.Clauses.{bit, Sieved, SievedBelow, Progress, Outside, Room, Clear}
 use Rattle.sieve.proofs.sieve.Kept.{outside_none, outside_more, sieved_kept}
 
 pub record Sieving (p m n : ℕ) (xs codes old marks : List ℕ) : Type 0 where

@@ -9,7 +9,7 @@ use native.Mathlib.Nat.{le_refl}
 use native.Mathlib.Omega.{arith}
 use lib.ListN.{length, get_or, replicate, length-replicate}
 use Rattle.array.proofs.Ranges.{zeros_word}
-use Rattle.sieve.specs.Contracts.{Sieved, SievedBelow, Outside, Room, Clear}
+use Rattle.sieve.specs.Clauses.{Sieved, SievedBelow, Outside, Room, Clear}
 use Rattle.sieve.proofs.Powers.{power_monotone, power_doubles}
 use Rattle.sieve.proofs.sieve.Kept.{room_kept, sieved_kept}
 

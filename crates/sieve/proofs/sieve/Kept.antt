@@ -4,7 +4,7 @@ use mathlib.Core.List.{List}
 use mathlib.Core.Logic.{inl}
 use Prim.Native.Nat.{ℕ, ◌+◌, ◌^◌, ◌≤◌, ◌<◌}
 use native.Mathlib.Omega.{arith}
-use Rattle.sieve.specs.Contracts.{StruckBy, Sieved, Outside, Room}
+use Rattle.sieve.specs.Clauses.{StruckBy, Sieved, Outside, Room}
 use Rattle.sieve.proofs.Powers.{power_doubles}
 
 pub outside_none : (p m : ℕ) (marks : List ℕ) → Outside p m marks marks

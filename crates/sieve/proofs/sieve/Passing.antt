@@ -7,7 +7,7 @@ use Prim.Native.Nat.{ℕ, ◌+◌, ◌^◌, ◌≤◌, ◌<◌}
 use native.Mathlib.Omega.{arith}
 use lib.ListN.{length, get_or}
 use Rattle.array.specs.Digits.{digits}
-use Rattle.sieve.specs.Contracts.{StruckBy, Sieved, Progress, Outside}
+use Rattle.sieve.specs.Clauses.{StruckBy, Sieved, Progress, Outside}
 use Rattle.sieve.proofs.Powers.{power_monotone}
 use Rattle.sieve.proofs.sieve.Kept.{outside_none, outside_more, outside_struck, sieved_kept}
 use Rattle.sieve.proofs.sieve.Progress.{progress_struck, progress_skipped, progress_end}

@@ -15,7 +15,7 @@ use Rattle.quotient.specs.Divisor.{Divides, HasDivisor}
 use Rattle.quotient.specs.DivisorTest.{divides_test, has_divisor}
 use Rattle.quotient.proofs.Decision.{test_divides, divides_test_lem, test_has_divisor}
 use Rattle.quotient.proofs.Divisor.{divides_transitive}
-use Rattle.sieve.specs.Contracts.{StruckBy, struck, bit, Sieved, Progress}
+use Rattle.sieve.specs.Clauses.{StruckBy, struck, bit, Sieved, Progress}
 
 -- the two laws of the test, for a D of any degree n above 0
 

@@ -10,7 +10,7 @@ use Rattle.array.specs.Digits.{digits}
 use Rattle.array.specs.Words.{Words}
 use Rattle.array.proofs.Digits.{digits_words}
 use Rattle.array.proofs.Padded.{front_is, holds_is}
-use Rattle.sieve.specs.Contracts.{WordsBelow, Lows, Struck, StruckBy}
+use Rattle.sieve.specs.Clauses.{WordsBelow, Lows, Struck, StruckBy}
 use Rattle.sieve.proofs.Powers.{power_parts, power_monotone, lower_most, prime_most}
 use Rattle.sieve.proofs.strike.Multiples.{lows_below, lows_struck}
 

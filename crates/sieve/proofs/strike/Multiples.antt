@@ -14,7 +14,7 @@ use Rattle.array.specs.Words.{Words}
 use Rattle.array.proofs.Digits.{digits_words, digits-code, digits_split, code_below, code-digits}
 use Rattle.quotient.specs.DivisorTest.{divides_test}
 use Rattle.quotient.proofs.Multiples.{low_divides, divides_low}
-use Rattle.sieve.specs.Contracts.{WordsBelow, Lows, Struck, StruckBy, struck}
+use Rattle.sieve.specs.Clauses.{WordsBelow, Lows, Struck, StruckBy, struck}
 use Rattle.sieve.specs.Multiples.{lows}
 use Rattle.sieve.proofs.LowerWords.{lows_words, lows_is}
 use Rattle.sieve.proofs.Powers.{power_parts, power_positive}

@@ -13,7 +13,7 @@ use lib.ListN.{get_or, set, length-set}
 use lib.Seq.{get_or-set_same, get_or-set_other}
 use mir.Syntax.{w64}
 use mir.Val.{Fits}
-use Rattle.sieve.specs.Contracts.{WordsBelow, Struck, struck, Room}
+use Rattle.sieve.specs.Clauses.{WordsBelow, Struck, struck, Room}
 
 pub record Striking (base q count h from : ℕ) (codes old marks : List ℕ) : Type 0 where
   pub within : h ≤ count

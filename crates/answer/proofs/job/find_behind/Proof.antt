@@ -27,7 +27,7 @@ returns c =
     let put = c.before.before in
     let find = put.before.before.before.before.before.before.before.before in
     let lent = find.before.before.before.before.before.before.before.requires in
-    pair_behind _ _ _ _ _ _ _ _ _ _ lent.2 lent.3 find.find-in.auto.1.1.1.0 find.find-in.auto.1.1.1.1.0 lent.4
+    pair_behind _ _ _ _ _ _ _ _ _ _ lent.2 lent.3 find.find-in.auto.s find.find-in.auto.r lent.4
     find.find-in.ensures.0 find.find-in.ensures.1.0 find.find-in.ensures.1.1 put.put_both.ensures
 
 pub find-behind-spec : {M : Type 1} → statement M

@@ -1,6 +1,6 @@
 -- Before turn k the first k words are copied.
 use Rattle.std.proofs.Common.{◌≡◌, ◌-◌, length, rules}
-use Rattle.differences.specs.Contracts.{Begun}
+use Rattle.differences.specs.Clauses.{Begun}
 use Rattle.differences.proofs.Begun.{begun_none, begun_turn, begun_few, begun_all}
 use Rattle.differences.proofs.store.keep_first.Statement.{statement}
 use Rattle.differences.proofs.store.keep_first.Tie as tie

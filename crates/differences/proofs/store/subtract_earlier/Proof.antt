@@ -1,6 +1,6 @@
 -- Before turn k the first k words are those of the differences.
 use Rattle.std.proofs.Common.{◌≡◌, ◌-◌, ◌≤◌, length, rules}
-use Rattle.differences.specs.Contracts.{Begun}
+use Rattle.differences.specs.Clauses.{Begun}
 use Rattle.differences.specs.Differences.{differences}
 use Rattle.differences.proofs.store.Laws.{differences_begin, subtract_turn, subtract_done}
 use Rattle.differences.proofs.store.subtract_earlier.Statement.{statement}

@@ -37,7 +37,7 @@ times-requires : tie.Need-times-requires
 times-requires c κs = (search top_short, search top_short)
 
 returns-2 : tie.Need-returns-2
-returns-2 c = (search odd_start, search odd_top)
+returns-2 c = (search odd_start, search odd_top fits 6000)
 
 pub start_spec : {M : Type 1} → statement M
 start_spec =

@@ -1,7 +1,7 @@
 -- Before turn h the first h words are 0.
 use borrow.Author.Rules.{rules}
 use Prim.Native.Nat.{◌-◌, ◌≤◌}
-use Rattle.sieve.specs.Contracts.{WordsBelow}
+use Rattle.sieve.specs.Clauses.{WordsBelow}
 use Rattle.sieve.proofs.lows.Codes.{cleared_none, cleared_turn, cleared_done}
 use Rattle.sieve.proofs.lows.clear.Statement.{statement}
 use Rattle.sieve.proofs.lows.clear.Tie as tie

@@ -3,7 +3,7 @@ use borrow.Author.Rules.{rules}
 use mathlib.Core.Path.{◌≡◌}
 use Prim.Native.Nat.{◌-◌, ◌≤◌}
 use lib.ListN.{length}
-use Rattle.sieve.specs.Contracts.{Collected}
+use Rattle.sieve.specs.Clauses.{Collected}
 use Rattle.sieve.proofs.lows.Codes.{word_of, collected_none, collected_old, collected_turn, collected_done}
 use Rattle.sieve.proofs.lows.collect.Statement.{statement}
 use Rattle.sieve.proofs.lows.collect.Tie as tie

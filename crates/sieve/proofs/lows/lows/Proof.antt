@@ -3,7 +3,7 @@ use borrow.Author.Rules.{rules}
 use mathlib.Core.Path.{◌≡◌}
 use Prim.Native.Nat.{◌≤◌}
 use lib.ListN.{length, take}
-use Rattle.sieve.specs.Contracts.{Lows}
+use Rattle.sieve.specs.Clauses.{Lows}
 use Rattle.sieve.proofs.lows.Codes.{lows_begun, lows_below, start_below, lows_turn, lows_done, lows_few, count_few, prime_few, prime_short, same_few, digit_plane}
 use Rattle.sieve.proofs.lows.lows.Statement.{statement}
 use Rattle.sieve.proofs.lows.lows.Tie as tie

@@ -1,7 +1,7 @@
 -- Before turn x the first x words of the block are there.
 use borrow.Author.Rules.{rules}
 use Prim.Native.Nat.{◌-◌, ◌≤◌}
-use Rattle.sieve.specs.Contracts.{Block}
+use Rattle.sieve.specs.Clauses.{Block}
 use Rattle.sieve.proofs.plane.Blocks.{block_none, block_word, block_turn, block_done}
 use Rattle.sieve.proofs.plane.add_block.Statement.{statement}
 use Rattle.sieve.proofs.plane.add_block.Tie as tie

@@ -5,7 +5,7 @@ use Prim.Native.Nat.{◌-◌, ◌^◌, ◌≤◌}
 use lib.ListN.{take}
 use Rattle.array.specs.Array.{padded, Holds}
 use Rattle.matrix.specs.Matrix.{multiple}
-use Rattle.sieve.specs.Contracts.{Plane}
+use Rattle.sieve.specs.Clauses.{Plane}
 use Rattle.sieve.proofs.digits.Turns.{power_none}
 use Rattle.sieve.proofs.plane.Planes.{shifted_holds, shifted_first, shifted_turn, shifted_end, plane_below, plane_first, plane_turn, plane_some, plane_room, plane_power, plane_done}
 use Rattle.sieve.proofs.plane.plane.Statement.{statement}
