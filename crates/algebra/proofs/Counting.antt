@@ -16,32 +16,38 @@ use Rattle.algebra.proofs.Lists.{Within, member_equal, map_member, distinct_map}
 module _ {A : Type 0} where
   -- ys without its element a, which stands where m says
   abbrev pub without : (ys : List A) (a : A) → Member a ys → List A
+  without [] a x = elim x [ ]
   without (y ∷ ys) a (inl e) = ys
   without (y ∷ ys) a (inr m) = y ∷ without ys a m
 
   pub without-length : (ys : List A) (a : A) (m : Member a ys) → length ys ≡ suc (length (without ys a m))
+  without-length [] a m = elim m [ ]
   without-length (y ∷ ys) a (inl e) = refl
   without-length (y ∷ ys) a (inr m) = ap suc (without-length ys a m)
 
   -- every other element is left
   pub without_keeps : (ys : List A) (a : A) (m : Member a ys) (b : A) → Member b ys → (b ≡ a) ⊎ Member b (without ys a m)
+  without_keeps [] a m b _ = elim m [ ]
   without_keeps (y ∷ ys) a (inl e) b (inl f) = inl (f ∙ sym e)
   without_keeps (y ∷ ys) a (inl e) b (inr l) = inr l
   without_keeps (y ∷ ys) a (inr m) b (inl f) = inr (inl f)
   without_keeps (y ∷ ys) a (inr m) b (inr l) = ⊎_elim inl (λ k. inr (inr k)) (without_keeps ys a m b l)
 
   pub without_within : (ys : List A) (a : A) (m : Member a ys) → Within (without ys a m) ys
+  without_within [] a m b l = elim m [ ]
   without_within (y ∷ ys) a (inl e) b l = inr l
   without_within (y ∷ ys) a (inr m) b (inl f) = inl f
   without_within (y ∷ ys) a (inr m) b (inr l) = inr (without_within ys a m b l)
 
   -- where nothing stands twice, nothing equal to a is left
   pub without_lacks : (ys : List A) (a : A) (m : Member a ys) → Distinct ys → Member a (without ys a m) → ⊥
+  without_lacks [] a m d l = elim m [ ]
   without_lacks (y ∷ ys) a (inl e) d l = d.0 (member_equal ys e l)
   without_lacks (y ∷ ys) a (inr m) d (inl f) = d.0 (member_equal ys f m)
   without_lacks (y ∷ ys) a (inr m) d (inr l) = without_lacks ys a m d.1 l
 
   pub without_distinct : (ys : List A) (a : A) (m : Member a ys) → Distinct ys → Distinct (without ys a m)
+  without_distinct [] a m d = elim m [ ]
   without_distinct (y ∷ ys) a (inl e) d = d.1
   without_distinct (y ∷ ys) a (inr m) d = (λ l. d.0 (without_within ys a m y l), without_distinct ys a m d.1)
 
@@ -59,6 +65,7 @@ module _ {A : Type 0} where
   -- the value of a commutative and associative operation over a finite set does not depend on the order
   module _ (op : A → A → A) (e : A) (left_comm : (a b c : A) → op a (op b c) ≡ op b (op a c)) where
     pub fold_without : (ys : List A) (a : A) (m : Member a ys) → foldr op e ys ≡ op a (foldr op e (without ys a m))
+    fold_without [] a m = elim m [ ]
     fold_without (y ∷ ys) a (inl f) = ap (λ (x : A). op x (foldr op e ys)) (sym f)
     fold_without (y ∷ ys) a (inr m) = ap (op y) (fold_without ys a m) ∙ left_comm y a (foldr op e (without ys a m))
 

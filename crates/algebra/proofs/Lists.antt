@@ -20,6 +20,7 @@ module _ {A : Type 0} where
   some_member (x ∷ xs) h = (x, inl refl)
 
   pub all_member : (P : A → Type 0) (xs : List A) → All P xs → (a : A) → Member a xs → P a
+  all_member P [] h a x = elim x [ ]
   all_member P (x ∷ xs) h a (inl e) = subst P (sym e) h.0
   all_member P (x ∷ xs) h a (inr m) = all_member P xs h.1 a m
 
@@ -28,6 +29,7 @@ module _ {A : Type 0} where
   member_all P (x ∷ xs) h = (h x (inl refl), member_all P xs (λ a m. h a (inr m)))
 
   pub member_append_left : (xs ys : List A) → Within xs (xs ++ ys)
+  member_append_left [] ys a x = elim x [ ]
   member_append_left (x ∷ xs) ys a (inl e) = inl e
   member_append_left (x ∷ xs) ys a (inr m) = inr (member_append_left xs ys a m)
 
@@ -42,10 +44,12 @@ module _ {A : Type 0} where
 
 module _ {A B : Type 0} (f : A → B) where
   pub member_map : (xs : List A) (a : A) → Member a xs → Member (f a) (map f xs)
+  member_map [] a x = elim x [ ]
   member_map (x ∷ xs) a (inl e) = inl (ap f e)
   member_map (x ∷ xs) a (inr m) = inr (member_map xs a m)
 
   pub map_member : (xs : List A) (b : B) → Member b (map f xs) → (a : A) × Member a xs × (b ≡ f a)
+  map_member [] b x = elim x [ ]
   map_member (x ∷ xs) b (inl e) = (x, inl refl, e)
   map_member (x ∷ xs) b (inr m) = let (a, l, e) = map_member xs b m in (a, inr l, e)
 

@@ -15,6 +15,7 @@ module _ {A : Type 0} (d : A) where
   place_member (x ∷ xs) (suc k) h = inr (place_member xs k (omega arith))
 
   pub member_place : (xs : List A) (a : A) → Member a xs → (k : ℕ) × (k < length xs) × (get_or xs k d ≡ a)
+  member_place [] a x = elim x [ ]
   member_place (x ∷ xs) a (inl e) = (0, omega arith, sym e)
   member_place (x ∷ xs) a (inr m) = let (k, l, e) = member_place xs a m in (suc k, omega arith, e)
 

@@ -28,6 +28,7 @@ range-append a (suc j) k =
 
 pub range_bounds : (a k x : ℕ) → Member x (range a k) → (a ≤ x) × (x < a + k)
 unfolding range
+range_bounds a zero x m = elim m [ ]
 range_bounds a (suc k) x (inl e) = omega arith
 range_bounds a (suc k) x (inr m) = omega (arith, range_bounds (suc a) k x m)
 
@@ -55,6 +56,7 @@ module _ {A : Type 0} (test : A → Bool) where
   all_fail_lem x xs e = rw e
 
   pub member_of_all : (xs : List A) → all test xs ≡ true → (x : A) → Member x xs → test x ≡ true
+  member_of_all [] h x m = elim m [ ]
   member_of_all (y ∷ ys) h x m = by_head (test y) refl (member_of_all ys)
     where
       by_head : (b : Bool) → test y ≡ b → (all test ys ≡ true → (x : A) → Member x ys → test x ≡ true) → test x ≡ true
@@ -80,6 +82,7 @@ module _ {A : Type 0} (test : A → Bool) where
 
   pub filter_member : (xs : List A) (y : A) → Member y (filter test xs) → Found xs y
   unfolding filter
+  filter_member [] y m = elim m [ ]
   filter_member (x ∷ xs) y m = by_head (test x) refl (filter_member xs y)
     where
       by_head : (b : Bool) → test x ≡ b → (Member y (filter test xs) → Found xs y) → Found (x ∷ xs) y
@@ -88,6 +91,7 @@ module _ {A : Type 0} (test : A → Bool) where
       by_head false e rest = let l : Found xs y = rest (rw (filter_fail x xs e) at m) in (inr l.0, l.1)
 
   pub member_filter : (xs : List A) (y : A) → Member y xs → test y ≡ true → Member y (filter test xs)
+  member_filter [] y m h = elim m [ ]
   member_filter (x ∷ xs) y m h = by_head (test x) refl (λ l. member_filter xs y l h)
     where
       by_head : (b : Bool) → test x ≡ b → (Member y xs → Member y (filter test xs)) → Member y (filter test (x ∷ xs))
@@ -110,6 +114,7 @@ module _ {A : Type 0} (test : A → Bool) where
     first_default (x ∷ xs) h = first_fail x xs (h x (inl refl)) ∙ first_default xs (λ y m. h y (inr m))
 
     pub first_found : (xs : List A) (x : A) → Member x xs → test x ≡ true → Found xs (first test d xs)
+    first_found [] x m h = elim m [ ]
     first_found (y ∷ ys) x m h = by_head (test y) refl (first_found ys x)
       where
         by_head : (b : Bool) → test y ≡ b → (Member x ys → test x ≡ true → Found ys (first test d ys)) → Found (y ∷ ys) (first test d (y ∷ ys))

@@ -71,6 +71,7 @@ module _ {A B C : Type 0} (f : A → B → C) where
 
   member_combined : (xs : List A) (ys : List B) (a : A) (b : B) → Member a xs → Member b ys → Member (f a b) (combined xs ys)
   unfolding combined
+  member_combined [] ys a b x m = elim x [ ]
   member_combined (x ∷ xs) ys a b (inl e) m =
       member_append_left (map (f x) ys) (combined xs ys) (f a b)
       (member_equal (map (f x) ys) (ap (λ z. f z b) (sym e)) (member_map (f x) ys b m))
@@ -78,6 +79,7 @@ module _ {A B C : Type 0} (f : A → B → C) where
 
   combined_member : (xs : List A) (ys : List B) (c : C) → Member c (combined xs ys) → (a : A) × (b : B) × Member a xs × Member b ys × (c ≡ f a b)
   unfolding combined
+  combined_member [] ys c h = elim h [ ]
   combined_member (x ∷ xs) ys c h =
       ⊎_elim
       (λ m. let (b, l, e) = map_member (f x) ys c m in (x, b, inl refl, l, e))
@@ -131,6 +133,7 @@ module _ {A : Type 0} (R : CommutativeRing A) (xs : List A) (y : A) where
   -- only 0 has no coefficients
   extended_none : (v : A) → Member v (extended 0) → v ≡ 𝟎
   unfolding extended
+  extended_none v (inr x) = elim x [ ]
   extended_none v (inl e) = e
 
   join : (d : ℕ) (c v : A) {w : A} → Member c xs → Member v (extended d) → c ⊕ y ⊗ v ≡ w → Member w (extended (suc d))
