@@ -1,5 +1,4 @@
 -- Text between quotation marks as ASCII codes.
-use mathlib.Core.List as List
 use Rattle.std.specs.Prelude.{List, ℕ}
 use Prim.Native.Char.{code}
 use Prim.Native.String.{String, [], ◌∷◌}
