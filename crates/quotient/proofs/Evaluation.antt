@@ -11,7 +11,7 @@ use Rattle.algebra.specs.Lists.{Member, Distinct}
 use Rattle.algebra.specs.Ring.{CommutativeRing, Field, numeral, power, value}
 use Rattle.algebra.proofs.Lists.{member_all}
 use Rattle.algebra.proofs.Polynomials.{monic_roots}
-use Rattle.algebra.proofs.RingLaws.{zero-mul, one-mul, mul-one, add-mul, numeral-zero, numeral-suc}
+use Rattle.algebra.proofs.RingLaws.{zero-mul, one-mul, add-mul, numeral-zero, numeral-suc}
 use Rattle.quotient.specs.Residue.{sum, scale}
 use Rattle.quotient.specs.Divisor.{Same, polynomial_product, monic}
 use Rattle.quotient.proofs.Action.{PolynomialModule, repeated, multiple, act, iterate, act-nil, act-cons, act-sum, act-scale, act_product, act-monic, act_same}

@@ -21,6 +21,7 @@ use Rattle.quotient.proofs.Operations.{residue_path}
 
 prefixed_complete : (words : List ℕ) (us : List (List ℕ)) (a : ℕ) (u : List ℕ) → Member a words → Member u us → Member (a ∷ u) (prefixed words us)
 unfolding prefixed
+prefixed_complete words [] a u m x = elim x [ ]
 prefixed_complete words (v ∷ us) a u m (inl e) =
     let before = map (λ b. b ∷ v) words in
     member_append_left before (prefixed words us) (a ∷ u) (member_equal before (ap (λ x. a ∷ x) (sym e)) (member_map (λ b. b ∷ v) words a m))
@@ -30,6 +31,7 @@ prefixed_complete words (v ∷ us) a u m (inr h) =
 prefixed_sound : (words : List ℕ) (us : List (List ℕ)) (v : List ℕ) → Member v (prefixed words us)
     → (a : ℕ) × (u : List ℕ) × Member a words × Member u us × (v ≡ a ∷ u)
 unfolding prefixed
+prefixed_sound words [] v h = elim h [ ]
 prefixed_sound words (w ∷ us) v h =
     ⊎_elim
     (λ m. let (a, l, e) = map_member (λ b. b ∷ w) words v m in (a, w, l, inl refl, e))
@@ -66,12 +68,15 @@ prefixed_ascending k (u ∷ us) h =
 
 pub residues_complete : (p n : ℕ) (u : List ℕ) → Words p n u → Member u (residues p n)
 unfolding residues
+residues_complete p (suc n) [] x = elim x [ ]
+residues_complete p zero (a ∷ u) x = elim x [ ]
 residues_complete p zero [] none = inl refl
 residues_complete p (suc n) (a ∷ u) (more h w) =
     prefixed_complete (range 0 p) (residues p n) a u (range_member 0 p a (omega arith) (omega arith)) (residues_complete p n u w)
 
 pub residues_sound : (p n : ℕ) (u : List ℕ) → Member u (residues p n) → Words p n u
 unfolding residues
+residues_sound p zero u (inr x) = elim x [ ]
 residues_sound p zero u (inl e) = subst (Words p 0) (sym e) none
 residues_sound p (suc n) u h =
     let (a, v, k, l, e) = prefixed_sound (range 0 p) (residues p n) u h in
@@ -114,11 +119,13 @@ module _ {p n : ℕ} where
 
   attach_complete : (us : List (List ℕ)) (h : (u : List ℕ) → Member u us → Words p n u) (v : Residue p n) → Member v.0 us → Member v (attach us h)
   unfolding attach
+  attach_complete [] h v x = elim x [ ]
   attach_complete (u ∷ us) h v (inl e) = inl (residue_path e)
   attach_complete (u ∷ us) h v (inr m) = inr (attach_complete us (λ w k. h w (inr k)) v m)
 
   attach_sound : (us : List (List ℕ)) (h : (u : List ℕ) → Member u us → Words p n u) (v : Residue p n) → Member v (attach us h) → Member v.0 us
   unfolding attach
+  attach_sound [] h v x = elim x [ ]
   attach_sound (u ∷ us) h v (inl e) = inl (ap (λ w. w.0) e)
   attach_sound (u ∷ us) h v (inr m) = inr (attach_sound us (λ w k. h w (inr k)) v m)
 

@@ -10,7 +10,7 @@
 --   PowerOfUnit             for such T, u^(p^n − 1) = 1 for every residue u but 0
 --   IrreducibleDivisor      p prime: T has a monic divisor of degree 1 to n that has itself no divisor of lower degree but constants
 --   FrobeniusIsLinear       p prime: (u + v)^p = u^p + v^p and (c·u)^p = c·u^p
-use Rattle.std.specs.Prelude.{◌≡◌, List, [], ◌∷◌, ◌↔◌, ℕ, zero, suc, ◌-◌, ◌^◌, ◌≤◌, ◌<◌, length}
+use Rattle.std.specs.Prelude.{◌≡◌, List, [], ◌∷◌, ◌↔◌, ℕ, suc, ◌-◌, ◌^◌, ◌≤◌, ◌<◌, length}
 use Rattle.algebra.specs.Lists.{Member, Distinct}
 use Rattle.algebra.specs.Prime.{Prime}
 use Rattle.algebra.specs.Ring.{CommutativeRing}
