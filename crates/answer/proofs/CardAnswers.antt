@@ -4,8 +4,7 @@ use mathlib.Core.List.{List}
 use Prim.Native.Nat.{ℕ, ◌+◌, ◌*◌, ◌≤◌}
 use native.Mathlib.Omega.{arith}
 use borrow.Author.Tests.{eq-eqb, ne_eqb}
-use lib.ListN.{take, replicate}
-use Rattle.io.specs.Counts.{IsPrefixLen}
+use lib.ListN.{length, take, replicate}
 use Rattle.card.specs.Card.{word_count, card_prime, card_degree, card_kind, read_number, read_prime, read_degree, read_kind, read_output}
 use Rattle.text.specs.Text.{Begins}
 use Rattle.answer.specs.Answer.{part, card_part, refused_text, printed, job_text, pair_card_text, card_text, answer_text}
@@ -14,7 +13,7 @@ use Rattle.answer.proofs.Parts.{prefix_length}
 use Rattle.answer.proofs.Printed.{printed_refusal, printed_text}
 
 -- as many bytes are printed as the text has
-pub counted : (xs text : List ℕ) (end : ℕ) → Begins xs text end → IsPrefixLen end text
+pub counted : (xs text : List ℕ) (end : ℕ) → Begins xs text end → (end ≤ length text) × (end ≡ length (take end text))
 counted xs text end b = (b.within, prefix_length end text b.within)
 
 module _ (ys : List ℕ) (number : ℕ) (e : number ≡ read_number ys (replicate 64 0)) where

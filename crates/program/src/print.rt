@@ -1,7 +1,6 @@
 // What the program prints for a card.
 ghost use Rattle.std.specs.Prelude.{◌≡◌, ◌*◌, ◌≤◌, length, replicate, take};
 ghost use Rattle.card.specs.Card.{card, card_length, write_number};
-ghost use Rattle.io.specs.Counts.{IsPrefixLen};
 ghost use Rattle.refusal.specs.Models.{Models, Given};
 ghost use Rattle.answer.specs.Answer.{answer_text, job_text, pair_card_text, pair_text, part};
 ghost use Rattle.text.specs.Text.{Begins};
@@ -80,7 +79,7 @@ fn answer_pair(p: u32, n: u32, words: &[Word], text: &mut [u8]) -> usize
 // What is printed for the card: the first r bytes of the text.
 pub fn answer(card: &[u8], text: &mut [u8; 338]) -> usize
     ensures text { take result text.new ≡ answer_text card.now }
-    ensures count { IsPrefixLen result text.new }
+    ensures count { (result ≤ length text.new) × (result ≡ length (take result text.new)) }
 {
     let mut words = [0; 64];
     let head = read(card, &mut words);

@@ -1,11 +1,41 @@
 // The program, from standard input to standard output.
-use crate::print::answer;
+ghost use Rattle.std.specs.Prelude.{◌≡◌, ◌≤◌, ◌⊎◌, List, ℕ, length, take, IfOk, OnOk, IfSome};
+ghost use Rattle.std.specs.Io.KnownBytes.{Appends, Consumes, IsAtEnd};
+ghost use Rattle.answer.specs.Answer.{answer_text};
 
-// The buffer holds one byte more than the longest card: an input that fills it is too long, whatever follows.
-pub fn run() {
+use crate::print::answer;
+use std::io;
+use std::io::{Read, Write};
+
+// Reads until the card is full or the input ends: how many bytes were read.
+fn read_card<R: Read>(reader: &mut R, card: &mut [u8; 167]) -> io::Result<usize>
+    ensures within { IfOk result (λ n. n ≤ 167) }
+    ensures bytes { IfOk result (λ n. Consumes (R.remaining reader.old) (R.remaining reader.new) (take n card.new)) }
+    ensures whole { IfOk result (λ n. (n ≡ 167) ⊎ IsAtEnd (R.remaining reader.new)) }
+{
+    let mut at = 0;
+    while at < 167 {
+        let n = reader.read(&mut card[at..])?;
+        if n == 0 {
+            break;
+        }
+        at += n;
+    }
+    Ok(at)
+}
+
+// Reads a card and writes the answer. The buffer holds one byte more than the longest card: an input that fills it is too long, whatever follows. Where
+// the bytes that the reader has are known, the answer is that to all of them, and for any reader it is that to some bytes that were read.
+pub fn run<R: Read, W: Write>(reader: &mut R, writer: &mut W) -> io::Result<()>
+    ensures answered { OnOk result (IfSome (R.remaining reader.old)
+        (λ bytes. Appends (W.contents writer.old) (W.contents writer.new) (answer_text bytes))) }
+    ensures card { OnOk result ((bytes : List ℕ) × (length bytes ≤ 167)
+        × Consumes (R.remaining reader.old) (R.remaining reader.new) bytes
+        × Appends (W.contents writer.old) (W.contents writer.new) (answer_text bytes)) }
+{
     let mut card = [0u8; 167];
-    let n = io::read_full(libc::STDIN_FILENO, &mut card);
+    let n = read_card(reader, &mut card)?;
     let mut text = [0u8; 338];
     let k = answer(&card[..n], &mut text);
-    io::write_all(libc::STDOUT_FILENO, &text[..k]);
+    writer.write_all(&text[..k])
 }

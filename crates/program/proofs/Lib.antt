@@ -1,0 +1,2 @@
+-- Lemmas of the program.
+mod Answered
