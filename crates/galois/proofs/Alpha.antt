@@ -2,7 +2,7 @@
 -- from 1 to p − 1, the first coefficient of c·v that is not zero is c, and (c·v)^n = c^n·b. So α is k·v for the smallest k with k^n·b = a; there is
 -- no other, and the search finds it.
 use mathlib.Core.Path.{◌≡◌, sym, ap, ◌∙◌, subst}
-use mathlib.Core.Bool.{Bool, true, not, ◌&&◌, and-eq-true_iff, true≢false}
+use mathlib.Core.Bool.{Bool, not, ◌&&◌, and-eq-true_iff, true≢false}
 use mathlib.Core.List.{List}
 use Prim.Native.Nat.{ℕ, suc, ◌*◌, ◌%◌, ◌^◌, ◌≤◌, ◌<◌}
 use native.Mathlib.Decide.{dec_le}

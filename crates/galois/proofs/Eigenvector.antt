@@ -12,7 +12,7 @@ use native.Mathlib.Omega.{arith}
 use lib.ListN.{length}
 use Rattle.algebra.specs.Prime.{Prime}
 use Rattle.algebra.specs.Ring.{CommutativeRing, Field, numeral, power}
-use Rattle.algebra.proofs.RingLaws.{mul_assoc, mul_comm, mul_left_comm, one-mul, zero-mul, power_zero, power-one, power-suc, power-add, power-mul, power_product, power_of_zero}
+use Rattle.algebra.proofs.RingLaws.{mul_assoc, mul_left_comm, one-mul, zero-mul, power_zero, power-one, power-suc, power-add, power-mul, power_product, power_of_zero}
 use Rattle.algebra.proofs.FieldLaws.{mul_left_cancel, power-ne-zero}
 use Rattle.algebra.proofs.Units.{Units, power_units}
 use Rattle.algebra.proofs.PowerRoots.{power_root}

@@ -13,7 +13,7 @@ use Rattle.algebra.specs.Ring as Ring
 use Rattle.algebra.proofs.Period.{period_distinct}
 use Rattle.array.specs.Words.{Words}
 use Rattle.quotient.specs.Divisor.{HasDivisor}
-use Rattle.quotient.specs.Residue.{Residue, product, power}
+use Rattle.quotient.specs.Residue.{Residue, product}
 use Rattle.quotient.proofs.Divisor.{reduction_homomorphism}
 use Rattle.quotient.proofs.Field.{residue_field, power_of_size}
 use Rattle.quotient.proofs.Operations.{residue_path, constant_words, product_words, power_words}
