@@ -1,8 +1,10 @@
-// The program `fieldcard`: it reads one card from standard input, and writes the answer to standard output. A failed read or write is its error.
+// The program `fieldcard`: it reads one card from standard input, and writes the answer to standard output. A write that fails is its error.
 #![tactic(auto)]
 
+use program::input::Input;
 use std::io;
 
 fn main(rt: HostRuntime) -> io::Result<()> {
-    program::program::run(&mut rt.stdin(), &mut rt.stdout())
+    let mut input = Input { reader: rt.stdin() };
+    program::program::run(&mut input, &mut rt.stdout())
 }

@@ -1,7 +1,9 @@
-// The program `fieldcard` as functions: what it prints for a card, and standard input and output.
+// The program `fieldcard` as functions: what it prints for a card, and how it reads one and writes the answer.
 //   print     what is printed for a card
-//   program   standard input and output
+//   input     a reader whose failed reads count as the end of the input
+//   program   from a reader to a writer
 #![tactic(auto)]
 
+pub mod input;
 pub mod print;
 pub mod program;
