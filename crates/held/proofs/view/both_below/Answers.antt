@@ -1,0 +1,7 @@
+-- The two lists are tested one after the other.
+use Rattle.refusal.proofs.Tests.{words_none}
+use Rattle.held.proofs.view.Laws.{words_front}
+use Rattle.held.proofs.view.both_below.Goals as goal
+
+pub returns : goal.returns
+returns c = search (words_none, words_front) depth 6
