@@ -99,6 +99,7 @@ module _ (f : ℕ → List ℕ) where
 
   pub sorted_member : (k : ℕ) (a : List ℕ) → Member a (sorted f k) → (j : ℕ) × (j < k) × (a ≡ f j)
   unfolding sorted
+  sorted_member zero a m = elim m [ ]
   sorted_member (suc k) a m =
       ⊎_elim (λ e. (k, omega arith, e)) (λ l. let (j, b, e) = sorted_member k a l in (j, omega arith, e)) (insert_member (f k) a (sorted f k) m)
 
