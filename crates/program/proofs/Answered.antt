@@ -1,5 +1,5 @@
 -- The bytes that the program reads answer for all that the reader has: they are all, or its first 167.
-use Rattle.std.proofs.Common.{◌≡◌, refl, sym, ap, ◌∙◌, subst, ℕ, ◌≤◌, ◌⊎◌, inl, inr, List, [], ◌++◌, length, take, Some, None, IfSome, Result, Ok, Err, OnOk, take_at, append-nil, length-take-le}
+use Rattle.std.proofs.Common.{◌≡◌, refl, sym, ap, ◌∙◌, subst, ℕ, ◌≤◌, ◌⊎◌, inl, inr, List, [], ◌++◌, length, take, Some, None, IfSome, Result, Ok, Err, OnOk, OnErr, take_at, append-nil, length-take-le}
 use Rattle.std.specs.declared.option.Option.{Option}
 use Rattle.std.specs.Io.KnownBytes.{Appends, Consumes, IsAtEnd}
 use Rattle.answer.specs.Answer.{answer_text}
@@ -21,3 +21,8 @@ answered (Some bytes) (Some rest) held holds n card within consumed (inr ended) 
 pub on_ok : {T E P Q : Type 0} (r : Result T E) → (P → Q) → OnOk r P → OnOk r Q
 on_ok (Ok x) f h = f h
 on_ok (Err x) f h = tt
+
+-- and on an error likewise
+pub on_err : {T E P Q : Type 0} (r : Result T E) → (P → Q) → OnErr r P → OnErr r Q
+on_err (Ok x) f h = tt
+on_err (Err x) f h = f h
