@@ -1,0 +1,25 @@
+-- `write_substitute`: no refusal applies, so the arrays hold the lists, and the result fits the list lent.
+use Rattle.arithmetic.proofs.Answers.{first_short, second_short, third_short, output_short, in_range, first_holds, second_holds, third_holds, substitute_stores, substitute_stored}
+use Rattle.arithmetic.proofs.call.write_substitute.Goals as goal
+
+pub load-requires : goal.load-requires
+load-requires c = search (first_short, second_short, third_short)
+
+pub load-requires-2 : goal.load-requires-2
+load-requires-2 c = search (first_short, second_short, third_short)
+
+pub load-requires-3 : goal.load-requires-3
+load-requires-3 c = search (first_short, second_short, third_short)
+
+pub substitute-requires-clause-le_p : goal.substitute-requires-clause-le_p
+substitute-requires-clause-le_p c = search in_range
+
+pub substitute-requires-clause-holds : goal.substitute-requires-clause-holds
+substitute-requires-clause-holds c =
+    (search (first_holds, second_holds, third_holds), search (first_holds, second_holds, third_holds), search (first_holds, second_holds, third_holds))
+
+pub store-requires : goal.store-requires
+store-requires c = (search output_short, search substitute_stores)
+
+pub returns : goal.returns
+returns c = search substitute_stored
