@@ -1,9 +1,9 @@
-//! Links the proved library, which `rt staticlib capi` writes.
+//! Links the proved library, which `rt lib` writes in crates/capi.
 
 fn main() {
-    let folder = format!("{}/../../target/staticlib", std::env::var("CARGO_MANIFEST_DIR").unwrap());
+    let folder = format!("{}/../../crates/capi/out", std::env::var("CARGO_MANIFEST_DIR").unwrap());
     if !std::path::Path::new(&format!("{folder}/libcapi.a")).exists() {
-        println!("cargo:warning=the proved library is not there yet: run `rt staticlib capi` at the root of the repository");
+        println!("cargo:warning=the proved library is not there yet: run `rt lib` in crates/capi");
     }
     println!("cargo:rustc-link-search=native={folder}");
     println!("cargo:rustc-link-lib=static=capi");

@@ -1,6 +1,6 @@
 //! Isomorphisms of finite fields: test a modulus, list all of a size, check a pair, list all maps, find a pair, convert tables through it, whole or in
 //! parts, or by the matrix of a map; and store tables as differences. Each function passes its slices on to the proved call of the same or a like name
-//! in include/yokebean.h ([`list_models`] to `yokebean_catalogue_list`); `rt staticlib capi` builds that library. None of them panics, and a refused
+//! in include/yokebean.h ([`list_models`] to `yokebean_catalogue_list`); `rt lib` builds that library in crates/capi. None of them panics, and a refused
 //! call leaves every slice as it was.
 //!
 //! A model is a prime p up to 1,048,575, a degree n from 1 to 16 and a monic modulus of degree n; its n lower words are passed, constant first.

@@ -11,7 +11,7 @@ use std::process::{Command, Stdio};
 use std::thread::sleep;
 use std::time::Duration;
 
-const PROGRAM: &str = concat!(env!("CARGO_MANIFEST_DIR"), "/../../target/bin/fieldcard");
+const PROGRAM: &str = concat!(env!("CARGO_MANIFEST_DIR"), "/../../crates/fieldcard/out/fieldcard");
 
 /// What the program prints when its input comes in these parts, one after the other, so that reads fall short.
 fn printed(parts: &[&[u8]]) -> String {
