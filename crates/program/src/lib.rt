@@ -7,3 +7,5 @@
 pub mod input;
 pub mod print;
 pub mod program;
+#[cfg(test)]
+mod tests;

@@ -16,7 +16,9 @@ read_behind at k n old new h few =
 pub loop-at-preserved : goal.loop-at-preserved
 loop-at-preserved g c =
     let within = c.in_ok-n.ensures.bound.0 in
-    let whole = c.loop-at.invariant.0 in
-    (same_len_mid _ _ _ _ c.read.auto.buf ∙ whole, omega (arith, within, c.read.auto.buf),
-    subst (Consumes _ _) (read_behind c.loop-at.at _ c.in_ok-n.n c.loop-at.card c.read.new.buf (omega (arith, whole)) within)
-        (Consumes-trans _ _ _ _ _ c.loop-at.invariant.2 c.in_ok-n.ensures.bytes.0))
+    let whole = c.loop-at.invariant.0 in (
+      same_len_mid _ _ _ _ c.read.auto.buf ∙ whole,
+      omega (arith, within, c.read.auto.buf),
+      subst (Consumes _ _) (read_behind c.loop-at.at _ c.in_ok-n.n c.loop-at.card c.read.new.buf (omega (arith, whole)) within)
+          (Consumes-trans _ _ _ _ _ c.loop-at.invariant.2 c.in_ok-n.ensures.bytes.0),
+    )
