@@ -37,6 +37,7 @@ module _ {p n : ℕ} {t b c s : List ℕ} (prime : Prime p) (short : suc n ≤ 1
 
   -- a solution v would make (p − 1, v[1], …) a vector of the kernel
   no_solution : ((w : List ℕ) → Words p (suc n) w → Solves p (suc n) s [] w → w ≡ replicate (suc n) 0) → (v : List ℕ) → Words p (suc n) v → ArtinSchreier p (suc n) t a v → ⊥
+  no_solution trivial [] x h = elim x [ ]
   no_solution trivial (x ∷ f) (more l w) h =
       let zero_first : x ≡ 0 = h.constant-zero in
       let one : p - (p - 1) ≡ 1 = omega (arith, prime.0) in
@@ -52,6 +53,7 @@ module _ {p n : ℕ} {t b c s : List ℕ} (prime : Prime p) (short : suc n ≤ 1
     fixed_vector wu zero_first other irreducible = by_words u wu solves zero_first other
       where
         by_words : (u : List ℕ) → Words p (suc n) u → Solves p (suc n) s [] u → get_or u 0 0 ≡ 0 → (u ≡ replicate (suc n) 0 → ⊥) → ⊥
+        by_words [] x solves z other = elim x [ ]
         by_words (x ∷ f) (more l w) solves z other =
             let pos : 0 < p = omega (arith, prime.0) in
             let wf : Words p (suc n) (0 ∷ f) = more pos w in
@@ -64,6 +66,7 @@ module _ {p n : ℕ} {t b c s : List ℕ} (prime : Prime p) (short : suc n ≤ 1
     solution_of wu other = by_words u wu solves other
       where
         by_words : (u : List ℕ) → Words p (suc n) u → Solves p (suc n) s [] u → (get_or u 0 0 ≡ 0 → ⊥) → ArtinSchreier p (suc n) t a (scale p (inverse p (p - get_or u 0 0)) (without_constant u))
+        by_words [] x solves other = elim x [ ]
         by_words (x ∷ f) (more l w) solves other =
             let wf : Words p (suc n) (0 ∷ f) = more {a = 0} (omega (arith, prime.0)) w in
             let pos : 0 < x = pos_of_ne-zero other in

@@ -15,6 +15,7 @@ use Rattle.tower.specs.Equation.{without_constant}
 
 set_first : (u : List ℕ) {p n : ℕ} → Words p (suc n) u → set (padded u) 0 0 ≡ padded (without_constant u)
 unfolding padded without_constant
+set_first [] {p = p} {n = n} x = elim x [ ]
 set_first (a ∷ u) (more l w) = refl
 
 -- any word below p may stand in its place
