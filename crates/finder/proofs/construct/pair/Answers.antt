@@ -1,0 +1,22 @@
+-- `pair`: both eigenvectors have a scaling whose n-th power is a, and it is α.
+use Rattle.std.proofs.Common.{rules}
+use Rattle.finder.proofs.construct.FromEigenvectors.{zeta_has_order, found_radicand, choices}
+use Rattle.finder.proofs.construct.pair.Goals as goal
+
+pub radicand-a-requires-clause-z_lt_p : goal.radicand-a-requires-clause-z_lt_p
+radicand-a-requires-clause-z_lt_p c = (search rules, search zeta_has_order)
+
+pub scaling-alpha1-requires-clause-z_lt_p : goal.scaling-alpha1-requires-clause-z_lt_p
+scaling-alpha1-requires-clause-z_lt_p c = (search rules, search zeta_has_order)
+
+pub scaling-alpha1-requires-clause-radicand : goal.scaling-alpha1-requires-clause-radicand
+scaling-alpha1-requires-clause-radicand c = (search (rules, found_radicand), search found_radicand)
+
+pub scaling-alpha2-requires-clause-z_lt_p : goal.scaling-alpha2-requires-clause-z_lt_p
+scaling-alpha2-requires-clause-z_lt_p c = (search rules, search zeta_has_order)
+
+pub scaling-alpha2-requires-clause-radicand : goal.scaling-alpha2-requires-clause-radicand
+scaling-alpha2-requires-clause-radicand c = (search (rules, found_radicand), search found_radicand)
+
+pub between-requires-clause-choices : goal.between-requires-clause-choices
+between-requires-clause-choices c = search choices
