@@ -1,5 +1,5 @@
 -- The proofs of what is promised of tables stored as differences.
-use Rattle.std.proofs.Common.{◌≡◌, ℕ, ◌-◌, ◌<◌, List, length, get_or, sym, refl, ◌∙◌}
+use Rattle.std.proofs.Common.{◌≡◌, ℕ, ◌<◌, List, length, get_or, sym, refl, ◌∙◌}
 use Rattle.array.specs.Words.{word_bound}
 use Rattle.array.proofs.Padded.{words_at}
 use Rattle.differences.specs.Differences.{differences, restored, differences_number}
