@@ -50,11 +50,13 @@ module _ (p : ℕ) where
 
   pub list_member : (ms : List ℕ) (d : List ℕ) → Member d (list_of ms) → (m : ℕ) × Member m ms × Member d (models p m)
   unfolding list_of
+  list_member [] d l = elim l [ ]
   list_member (m ∷ ms) d l =
       ⊎_elim (λ k. (m, inl refl, k)) (λ k. let (i, j, o) = list_member ms d k in (i, inr j, o)) (member_append (models p m) (list_of ms) d l)
 
   pub member_list : (ms : List ℕ) (d : List ℕ) (m : ℕ) → Member m ms → Member d (models p m) → Member d (list_of ms)
   unfolding list_of
+  member_list [] d m x l = elim x [ ]
   member_list (i ∷ ms) d m (inl e) l = member_append_left (models p i) (list_of ms) d (subst (λ k. Member d (models p k)) e l)
   member_list (i ∷ ms) d m (inr k) l = member_append_right (models p i) (list_of ms) d (member_list ms d m k l)
 
