@@ -1,0 +1,12 @@
+-- Before each turn the eight columns are restored before word k, and the sums are those of their words there.
+use mathlib.Core.List.{[], ◌∷◌}
+use Prim.Native.Nat.{◌-◌}
+use lib.ListN.{length}
+use Rattle.restoring.proofs.columns.Sums.{Restoring}
+use Rattle.restoring.proofs.columns.restore_eight.Given as goal
+
+abbrev pub invariant-loop-k : goal.invariant-loop-k
+invariant-loop-k l = Restoring l.n l.j 8 l.k l.table (l.sums.left.a ∷ l.sums.left.b ∷ l.sums.left.c ∷ l.sums.left.d ∷ l.sums.right.a ∷ l.sums.right.b ∷ l.sums.right.c ∷ l.sums.right.d ∷ []) l.initial.out l.out
+
+abbrev pub decreases-loop-k : goal.decreases-loop-k
+decreases-loop-k l = length l.table - l.k
