@@ -1,5 +1,5 @@
 -- The bytes that the program reads answer for all that the reader has: they are all, or its first 167.
-use Rattle.std.proofs.Common.{◌≡◌, refl, sym, ap, ◌∙◌, subst, ℕ, ◌≤◌, ◌⊎◌, inl, inr, List, [], ◌++◌, length, take, Some, None, IfSome, Result, Ok, Err, OnOk, OnErr, take_at, append-nil, length-take-le}
+use Rattle.std.proofs.Common.{◌≡◌, sym, ap, ◌∙◌, subst, ℕ, ◌≤◌, ◌⊎◌, inl, inr, List, ◌++◌, length, take, Some, None, IfSome, Result, Ok, Err, OnOk, OnErr, take_at, append-nil, length-take-le}
 use Rattle.std.specs.declared.option.Option.{Option}
 use Rattle.std.specs.Io.KnownBytes.{Appends, Consumes, IsAtEnd}
 use Rattle.answer.specs.Answer.{answer_text}

@@ -1,10 +1,10 @@
 -- What one read adds stands behind the bytes that were read before it.
-use Rattle.std.proofs.Common.{◌≡◌, ℕ, ◌+◌, ◌-◌, ◌≤◌, List, ◌++◌, arith, length, take, sym, ap, ◌∙◌, subst, length-take-le}
+use Rattle.std.proofs.Common.{◌≡◌, ℕ, ◌+◌, ◌≤◌, List, ◌++◌, arith, length, take, sym, ap, ◌∙◌, subst, length-take-le}
 use Rattle.std.proofs.lemmas.List.{take-append-le}
 use Rattle.std.proofs.Math.Seq.{take-append-add}
 use Rattle.std.specs.Io.KnownBytes.{Consumes}
 use Rattle.std.proofs.KnownBytes.{Consumes-trans}
-use borrow.Rule.Slice.PartMut.{mid_of, mid_len, put_mid, post_of, same_len_mid}
+use borrow.Rule.Slice.PartMut.{put_mid, post_of, same_len_mid}
 use Rattle.program.proofs.program.read_card.Goals as goal
 
 read_behind : (at k n : ℕ) (old new : List ℕ) → at ≤ length old → n ≤ length new → take at old ++ take n new ≡ take (at + n) (put_mid at k old new)

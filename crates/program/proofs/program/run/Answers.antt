@@ -1,5 +1,5 @@
 -- What is printed is the answer to the bytes of the card that were read.
-use Rattle.std.proofs.Common.{◌≡◌, ℕ, ◌≤◌, length, take, subst, arith, length-take-le}
+use Rattle.std.proofs.Common.{◌≤◌, length, take, subst, arith, length-take-le}
 use Rattle.std.specs.Io.KnownBytes.{Appends}
 use Rattle.program.proofs.Answered.{answered, on_ok, on_err}
 use Rattle.program.proofs.program.run.Goals as goal
