@@ -3,8 +3,8 @@
 -- these. Every m with 0 < m < n has a multiple that is one of the n/q modulo n, so z^m = 1 would give z^(n/q) = 1. The sum and the
 -- multiples are one computed test, run for n = 1 to 16.
 --   maximal_divisors n   the n/q for the primes q ≤ 13 that divide n
---   total es            the sum of the numbers es
---   suffices n es       0 < e for each e of es, their sum is below n, and every m with 0 < m < n has a multiple that is one of them modulo n
+--   total es             the sum of the numbers es
+--   suffices n es        0 < e for each e of es, their sum is below n, and every m with 0 < m < n has a multiple that is one of them modulo n
 use mathlib.Core.Path.{◌≡◌, refl, sym, ap, ◌∙◌}
 use mathlib.Core.Bool.{Bool, true, false, ◌&&◌, not, true≢false, false≢true}
 use mathlib.Core.List.{List, [], ◌∷◌}

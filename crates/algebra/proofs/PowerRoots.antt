@@ -71,7 +71,7 @@ module _ {A : Type 0} (R : CommutativeRing A) where
       ≡⟨ ap (λ r. b ⊗ t ⊕ z ⊗ r) e ⟩ b ⊗ t ⊕ z ⊗ (t ⊕ z ⊗ g)
       ∎
 
-  -- Z^m + b·G(Z) = b^m + Z-as-G(Z) at Z = u^k
+  -- Z^m + b·G(Z) = b^m + Z·G(Z) at Z = u^k
   geometric_sum_lem : (k : ℕ) (b : A) (i : ℕ) (u : A)
       → power R (power R u (suc k)) (suc i) ⊕ b ⊗ value R (geometric k b i) u ≡ power R b (suc i) ⊕ power R u (suc k) ⊗ value R (geometric k b i) u
   unfolding geometric

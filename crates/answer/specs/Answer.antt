@@ -1,18 +1,18 @@
 -- What the program `fieldcard` prints for a byte string (document 01, "Field cards"), as ASCII codes. The digits are those of the crate text.
---   part n words k             the k-th list of n words: T1, T2, S, R
---   card_part ys k              that list on a card
---   pair_text ys                `PAIR `, the bytes of a pair card in hexadecimal, and a newline
---   valid_text                  `VALID` and a newline
---   ring_text                   `RING` and a newline
---   refused_text k              `REFUSED `, the decimal number, newline
---   printed number text        the refusal with this number, or the text where the number is 0
---   pair_words p n t1 t2        what the pair card of a job carries: T1, T2 and the finder's S and R
---   job_text p n t1 t2          a job: "the program then goes on with 5, 6, 7"; where none applies, the pair card
---   pair_line number hold       a pair: `VALID` where the number is 0; else "`RING` and a newline for one whose four congruences hold" (request S-3), and for every other
---                              the refusal
+--   part n words k               the k-th list of n words: T1, T2, S, R
+--   card_part ys k               that list on a card
+--   pair_text ys                 `PAIR `, the bytes of a pair card in hexadecimal, and a newline
+--   valid_text                   `VALID` and a newline
+--   ring_text                    `RING` and a newline
+--   refused_text k               `REFUSED `, the decimal number, newline
+--   printed number text          the refusal with this number, or the text where the number is 0
+--   pair_words p n t1 t2         what the pair card of a job carries: T1, T2 and the finder's S and R
+--   job_text p n t1 t2           a job: "the program then goes on with 5, 6, 7"; where none applies, the pair card
+--   pair_line number hold        a pair: `VALID` where the number is 0; else "`RING` and a newline for one whose four congruences hold" (request S-3), and for every other
+--                                the refusal
 --   pair_card_text p t1 t2 s r   a pair card: it goes on with 6, 7, 8
---   card_text ys                by the card's kind: 1 is a job
---   answer_text ys              what is printed: the reader's refusal, or what the card that it takes prints
+--   card_text ys                 by the card's kind: 1 is a job
+--   answer_text ys               what is printed: the reader's refusal, or what the card that it takes prints
 use Rattle.std.specs.Prelude.{Bool, true, false, List, [], ◌∷◌, ◌++◌, ℕ, zero, suc, ◌*◌, eqb, take, drop, replicate}
 use Rattle.text.specs.Digits.{decimal, hexadecimal}
 use Rattle.card.specs.Card.{card, card_prime, card_degree, card_kind, card_words, read_number}

@@ -1,7 +1,7 @@
 // The public calls on residues: lists of words are lent, nothing is required, and each refusal has its number. On a refusal the list lent
 // for the output is as found.
 ghost use Rattle.std.specs.Prelude.{◌≡◌};
-ghost use Rattle.quotient.specs.Residue.{product as productOf, power as powerOf, substitute as substituteOf};
+ghost use Rattle.quotient.specs.Residue.{product as product_of, power as power_of, substitute as substitute_of};
 ghost use Rattle.arithmetic.specs.Calls.{substitute_number, substitute_output, product_number, product_output, power_number, power_output};
 
 use crate::number::{of_three, of_two};
@@ -12,7 +12,7 @@ use residue::ring;
 // u·v modulo T, where no refusal applies.
 fn write_product(p: u32, n: u32, t: &[Word], u: &[Word], v: &[Word], out: &mut [Word])
     requires { product_number p n t.now u.now v.now out.old ≡ 0 }
-    ensures { out.new ≡ productOf p t.now u.now v.now }
+    ensures { out.new ≡ product_of p t.now u.now v.now }
 {
     store(
         &ring::product(p as u64, n as usize, &load(t), &load(u), &load(v)),
@@ -35,7 +35,7 @@ pub fn product(p: u32, n: u32, t: &[Word], u: &[Word], v: &[Word], out: &mut [Wo
 // u^k modulo T, where no refusal applies to t and u.
 fn write_power(p: u32, n: u32, t: &[Word], u: &[Word], k: u64, out: &mut [Word])
     requires { power_number p n t.now u.now out.old ≡ 0 }
-    ensures { out.new ≡ powerOf p t.now u.now k }
+    ensures { out.new ≡ power_of p t.now u.now k }
 {
     store(
         &ring::power(p as u64, n as usize, &load(t), &load(u), k),
@@ -58,7 +58,7 @@ pub fn power(p: u32, n: u32, t: &[Word], u: &[Word], k: u64, out: &mut [Word]) -
 // u(S) modulo T, where no refusal applies.
 fn write_substitute(p: u32, n: u32, t: &[Word], s: &[Word], u: &[Word], out: &mut [Word])
     requires { substitute_number p n t.now s.now u.now out.old ≡ 0 }
-    ensures { out.new ≡ substituteOf p t.now s.now u.now }
+    ensures { out.new ≡ substitute_of p t.now s.now u.now }
 {
     store(
         &ring::substitute(p as u64, n as usize, &load(t), &load(s), &load(u)),

@@ -1,8 +1,8 @@
 -- Residues and matrices in flat arrays (document 01: "held as one flat array of 256 words"): 16 words, and 16 rows of 16 words.
---   padded u             u and zeros, 16 words in all
---   Holds p n xs         the array xs holds n words below p, and zeros after them
---   entry m i j          the word in row i and column j of the matrix
---   Square p n m         the matrix has 256 words, and those of its first n rows and columns are below p
+--   padded u              u and zeros, 16 words in all
+--   Holds p n xs          the array xs holds n words below p, and zeros after them
+--   entry m i j           the word in row i and column j of the matrix
+--   Square p n m          the matrix has 256 words, and those of its first n rows and columns are below p
 --   row_product m i j v   m[i][j]·v[0] + m[i][j+1]·v[1] + …, over all words of v
 use Rattle.std.specs.Prelude.{◌≡◌, List, [], ◌∷◌, ◌++◌, ℕ, suc, ◌+◌, ◌-◌, ◌*◌, ◌<◌, length, get_or, take, replicate}
 use Rattle.array.specs.Words.{Words}

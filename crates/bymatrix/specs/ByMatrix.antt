@@ -1,7 +1,7 @@
 -- Conversion by matrix (request S-10: "Build the n by n matrix of the forward map one time, its columns being the powers of S modulo T2, and likewise for back").
 -- A matrix of n rows and n columns is a list of n·n words, row after row.
---   word n m i j            the word in row i and column j: word i·n + j of the list
---   square n f              the matrix of the words f i j: word k of the list stands in row k / n and column k % n
+--   word n m i j             the word in row i and column j: word i·n + j of the list
+--   square n f               the matrix of the words f i j: word k of the list stands in row k / n and column k % n
 --   matrix_of p n t s        the matrix of u ↦ u(S) modulo T: in row i and column j it has coefficient i of S^j
 --   matrices_number p n t1 t2 s r forward back   the building call's answer ("takes the checker's input and gives its numbers, with 3 when either of its two
 --                           output lists, row after row, is not of n·n words"): 1, 2, 3, 4, 6, 7, 8 or 0

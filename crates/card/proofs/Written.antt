@@ -1,5 +1,5 @@
 -- What a written card says when it is read: each field in turn, from the list of its bits.
---   front l p n kind             the bits of the header up to those of kind
+--   front l p n kind              the bits of the header up to those of kind
 --   fill_count p n kind words     how many zeros fill the last byte
 use mathlib.Core.Path.{◌≡◌, refl, sym, ap, subst, ◌∙◌}
 use mathlib.Core.Bool.{Bool, true, false}

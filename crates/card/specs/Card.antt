@@ -1,18 +1,18 @@
 -- Field cards (document 01, "Field cards"): "Bits are packed most significant first: p in 16 bits, n − 1 in 4, kind in 4, then coefficients
 -- of w bits each. w is the number of binary digits of p − 1." Request S-9: "A wide card starts with 16 zero bits, then p in 20 bits, n − 1 in 4, kind in 4
 -- and 4 zero bits, which count as fill; coefficients follow as before".
---   layout wide                the wide layout, and the narrow one: how many zero bits come first, the bits of p, the zero bits after kind
---   header_bits l               how many bits come before the coefficients: 48, and 24
---   is_over p                   "The writer uses it exactly when p is over 65,535"
---   width p                    w
---   bad_kind kind               12: kind is neither 1 (a job: T1, T2) nor 2 (a pair card: T1, T2, S, R)
---   word_count n kind           how many coefficients a card carries: "2n words for a job and 4n for a pair card"; no card is of another kind: 0
---   card p n kind words        the card
---   card_length p n kind        its bytes
+--   layout wide                  the wide layout, and the narrow one: how many zero bits come first, the bits of p, the zero bits after kind
+--   header_bits l                how many bits come before the coefficients: 48, and 24
+--   is_over p                    "The writer uses it exactly when p is over 65,535"
+--   width p                      w
+--   bad_kind kind                12: kind is neither 1 (a job: T1, T2) nor 2 (a pair card: T1, T2, S, R)
+--   word_count n kind            how many coefficients a card carries: "2n words for a job and 4n for a pair card"; no card is of another kind: 0
+--   card p n kind words          the card
+--   card_length p n kind         its bytes
 --   write_number, write_output   the writer's answer: 1, 2, 12, 3, 4
---   is_wide ys                  a byte string starts with 16 zero bits, as wide cards do
---   card_prime, card_degree, card_kind, card_words   what a byte string says, read as a card
---   bad_header ys               11: "card under 3 bytes", or "A card under 6 bytes that begins with two zero bytes"
+--   is_wide ys                   a byte string starts with 16 zero bits, as wide cards do
+--   card_prime, card_degree, card_kind, card_words what a byte string says, read as a card
+--   bad_header ys               11: "card under 3  bytes", or "A card under 6 bytes that begins with two zero bytes"
 --   bad_layout ys               28: "a wide card with a p below 65,536"
 --   fill_bits ys                the zero bits after kind, and the bits behind the coefficients
 --   read_number, read_prime, read_degree, read_kind, read_output   the reader's answer: 3, 11, 1, 28, 12, 11, 13, 4; refused, every other field is 0

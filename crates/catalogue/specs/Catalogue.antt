@@ -2,7 +2,7 @@
 -- words each, compared from the highest power down, ascending, none missing or repeated. The count is the number listed. Its output list must have exactly n times that many
 -- words, else 3. Refused: 29 when p^n exceeds 65,536, after 1 and 2 and before 3").
 --   most_polynomials      65,536: p^n, the number of monic polynomials of degree n, is at most this
---   models p n           of the list of all lists of n words below p, in ascending order, those whose monic polynomial has no monic divisor of degree 1 to n − 1
+--   models p n            of the list of all lists of n words below p, in ascending order, those whose monic polynomial has no monic divisor of degree 1 to n − 1
 --   refuse_size p n rest  1, 2 and 29 in their order; then what comes after
 --   count_number p n      the number of the first call: 1, 2, 29 or 0
 --   model_count p n       its count: how many models there are where the number is 0, else 0

@@ -1,6 +1,6 @@
 -- What the functions below the calls go by; no call is stated by these.
---   valid_value v         v counts as itself: it is made, and its session is valid
---   counts_value v        what v counts as: whether it is itself, or else a new one, without records
+--   valid_value v        v counts as itself: it is made, and its session is valid
+--   counts_value v       what v counts as: whether it is itself, or else a new one, without records
 --   Recordable v number  a call with the number 0 that adds a record finds v counting as itself, and room behind its records
 use Rattle.std.specs.Prelude.{◌≡◌, Bool, true, ◌&&◌, ℕ, ◌<◌}
 use Rattle.ledger.specs.Ledger.{most_records}

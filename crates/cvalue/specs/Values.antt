@@ -2,26 +2,26 @@
 --   state_of k, number_of s            0 is empty, 1 loaded, 2 paired; and back
 --   direction_of k, direction_number d    0 is forward, 1 back; and back
 --   record_of v, record_value x        the record of a value; and back
---   none_value                        the value where there is no record: zeros
---   has_direction v                   the direction of a record is 0 or 1
+--   none_value                         the value where there is no record: zeros
+--   has_direction v                    the direction of a record is 0 or 1
 --   held_of v, held_value h            what a value holds; and back
---   nothing_value                     the value where nothing is held: zeros
---   table_of k fed                    0 is no table, 1 one that is open forward, 2 one that is open back, with the residues fed to it so far
---   open_in d                         the number of a table that is open in the direction d
+--   nothing_value                      the value where nothing is held: zeros
+--   table_of k fed                     0 is no table, 1 one that is open forward, 2 one that is open back, with the residues fed to it so far
+--   open_in d                          the number of a table that is open in the direction d
 --   open_number t, fed_number t        the two numbers of a table: 0 where none is open
---   table_made k s                    no table is open; or its number is up to 2, and so is the state of the waiting session
---   made v                           the state is up to 2, the table is made, the records that count are up to 512, and each of these has a direction
---   up_to k z xs                      xs, and z after them, k elements in all
+--   table_made k s                     no table is open; or its number is up to 2, and so is the state of the waiting session
+--   made v                             the state is up to 2, the table is made, the records that count are up to 512, and each of these has a direction
+--   up_to k z xs                       xs, and z after them, k elements in all
 --   work_of v, ledger_of v             all of the session of a value but its ledger, and its ledger
---   if_made b x                       x where b is true, else a new session
---   session_of v                      the session of a value; a value made otherwise counts as a new one
---   new_value                         a new session: zeros
---   over xs ys                       xs in place of the first elements of ys
---   value_with w k xs                 the value of all but the ledger, with the array xs of records, of which k count
---   value_on v x                      the value v with the session x in it: all of x but its ledger, and its records that count; what stands past these stays
---   answer_of k next taken            number k: the next value where k is 0, else the value taken
---   step_of v y                       the answer of a call that changes a session: refused, the value that was taken
---   given_back v y                    the answer of a report: always the value that was taken
+--   if_made b x                        x where b is true, else a new session
+--   session_of v                       the session of a value; a value made otherwise counts as a new one
+--   new_value                          a new session: zeros
+--   over xs ys                         xs in place of the first elements of ys
+--   value_with w k xs                  the value of all but the ledger, with the array xs of records, of which k count
+--   value_on v x                       the value v with the session x in it: all of x but its ledger, and its records that count; what stands past these stays
+--   answer_of k next taken             number k: the next value where k is 0, else the value taken
+--   step_of v y                        the answer of a call that changes a session: refused, the value that was taken
+--   given_back v y                     the answer of a report: always the value that was taken
 use Rattle.std.specs.Prelude.{Bool, true, false, ◌&&◌, List, ◌++◌, map, ℕ, zero, suc, ◌-◌, leb, length, take, drop, replicate}
 use Rattle.algebra.specs.Lists.{all}
 use Rattle.held.specs.Held.{zeros}

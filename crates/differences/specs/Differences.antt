@@ -2,7 +2,7 @@
 -- A second call restores the table"). Lists are of 32-bit words.
 --   minus a b               a − b wrapped at 32 bits, for two words: a + (2^32 − b), which is not below 0, modulo 2^32
 --   differences n table     the first n words of the table, and then word k minus word k − n, for k = n, n + 1, …
---   sum_of xs                the sum of all words of xs
+--   sum_of xs               the sum of all words of xs
 --   restored n table        word k is the sum of the k / n + 1 words k, k − n, k − 2·n, … of the table, wrapped at 32 bits
 --   differences_number n table out  the answer of both calls ("Refusals 2, 9 and 10 apply, in that order")
 --   differences_output n table out  what the list lent for the differences holds after the call

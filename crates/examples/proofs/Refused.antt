@@ -18,7 +18,7 @@ use Rattle.refusal.proofs.Lists.{words_of, below_given}
 pub words_counted : (p : ℕ) (u : List ℕ) → bad_word p (u ∷ []) ≡ false → Words p (length u) u
 words_counted p u h = words_of p (length u) u refl (below_given p (u ∷ []) h).0
 
--- D-as-E = T with D of degree 1 to n − 1
+-- D·E = T with D of degree 1 to n − 1
 pub factor_divides : (p : ℕ) (d e t : List ℕ) → 2 ≤ p → bad_word p (d ∷ []) ≡ false → bad_word p (t ∷ []) ≡ false
     → 0 < length d → length d < length t → polynomial_product p (monic d) e ≡ monic t → has_divisor p t ≡ true
 factor_divides p d e t big words_d words_t low high product =

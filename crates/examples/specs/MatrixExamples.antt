@@ -7,7 +7,7 @@ pub record MatrixExamples : Type 0 where
   -- A: p 3, T1 [1,0], T2 [2,1], S [1,2], R [1,2]: the columns are 1 and S, and 1 and R
   pub a_forward : matrix_of 3 2 (2 ∷ 1 ∷ []) (1 ∷ 2 ∷ []) ≡ 1 ∷ 1 ∷ 0 ∷ 2 ∷ []
   pub a_back : matrix_of 3 2 (1 ∷ 0 ∷ []) (1 ∷ 2 ∷ []) ≡ 1 ∷ 1 ∷ 0 ∷ 2 ∷ []
-  -- "The matrices of source document 004 are those of multiplication, not these": that of u ↦ u·S modulo T2 has the columns S and X-as-S
+  -- "The matrices of source document 004 are those of multiplication, not these": that of u ↦ u·S modulo T2 has the columns S and X·S
   pub a_multiplication : square 2 (λ i j. get_or (multiple 3 (2 ∷ 1 ∷ []) (1 ∷ 2 ∷ []) j) i 0) ≡ 1 ∷ 2 ∷ 2 ∷ 2 ∷ []
   -- B: the same models, S [2,1], R [1,1]: lists of 4 words receive both matrices
   pub b_forward : (forward back : List ℕ) → length forward ≡ 4 → length back ≡ 4

@@ -4,7 +4,7 @@ ghost use Rattle.std.specs.Prelude.{true, ◌≡◌, ◌^◌, ◌≤◌, ◌<◌
 ghost use Rattle.algebra.specs.Prime.{Prime};
 ghost use Rattle.array.specs.Array.{Holds};
 ghost use Rattle.finder.specs.Construct.{Size, Choices, FoundPair};
-ghost use Rattle.roots.specs.Roots.{zeta as zetaOf, Admissible};
+ghost use Rattle.roots.specs.Roots.{zeta as zeta_of, Admissible};
 ghost use Rattle.frobenius.specs.Kernel.{EigenvectorFound};
 
 use frobenius::eigenvector::{Normalised, eigenvector};
@@ -65,7 +65,7 @@ fn pair(
     m: &mut [u64; 256],
 ) -> Construction
     requires admissible { Admissible p n }
-    requires z_lt_p { (z < p) × (z ≡ zetaOf p n) }
+    requires z_lt_p { (z < p) × (z ≡ zeta_of p n) }
     requires holds { Holds p n t1.now × Holds p n t2.now }
     requires m_len { length m.old ≡ 256 }
     requires eigenvector_found { EigenvectorFound p n (take n t1.now) z true first.vector first.constant }

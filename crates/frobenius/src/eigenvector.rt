@@ -79,7 +79,7 @@ fn by_power(p: u64, n: usize, z: u64, t: &[u64; 16], v: &[u64; 16]) -> Normalise
     }
 }
 
-// 2X + t1, whose square modulo X² + typeof.t1.X + t0 is the constant t1² − 4·t0.
+// 2X + t1, whose square modulo X² + t1·X + t0 is the constant t1² − 4·t0.
 fn completed_square(p: u64, n: usize, t: &[u64; 16]) -> [u64; 16]
     requires lt_p { (2 < p) × (n ≡ 2) }
     requires holds { Holds p n t.now }

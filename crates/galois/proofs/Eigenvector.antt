@@ -2,7 +2,7 @@
 -- With p^n elements one exists if z^n = 1 and z^p = z: the equation is solvable if z^m = 1 for m = (p^n − 1)/(p − 1) = 1 + p + … + p^(n − 1),
 -- and z^m = z^n. Two of them differ by a constant factor, since the quotient γ has γ^(p − 1) = 1; likewise α^n is a constant. Conversely
 -- z^d = 1 in a field with p^d elements, since α = α^(p^d) = z^d·α.
---   Eigen R p z a      a ≠ 0 and a^p = z·a
+--   Eigen R p z a       a ≠ 0 and a^p = z·a
 --   geometric_sum p k   1 + p + … + p^(k − 1)
 use mathlib.Core.Path.{◌≡◌, refl, sym, ap, ap₂, ◌∙◌, ◌≡⟨◌⟩◌, ◌∎}
 use mathlib.Core.List.{List}

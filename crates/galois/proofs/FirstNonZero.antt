@@ -1,7 +1,7 @@
 -- The first coefficient of a list of words that is not zero, and division by it: modulo a prime a product with c ≠ 0 is zero only where the
 -- coefficient is, so the first that is not zero in c·u is c times that of u.
 --   first_non_zero u    the first coefficient that is not zero, counted from the constant
---   normalised p u    u times the inverse of that coefficient
+--   normalised p u      u times the inverse of that coefficient
 use mathlib.Core.Path.{◌≡◌, refl, sym, ap, ap₂, ◌∙◌}
 use mathlib.Core.List.{List, [], ◌∷◌}
 use mathlib.Core.Logic.{⊎_elim}

@@ -1,5 +1,5 @@
 -- Eigenvectors of the p-th power on the residues modulo T, and which of them is α (document 01, "The finder"; document 02, S-6).
---   first_non_zero u           the first coefficient that is not zero, counted from the constant; 0 where there is none
+--   first_non_zero u         the first coefficient that is not zero, counted from the constant; 0 where there is none
 --   Eigenvector p n t z u    u is a residue of n words, not zero, and u^p = z·u modulo T
 --   scalings p n t z a       the residues u that are not zero and satisfy u^p = z·u and u^n = a modulo T
 --   alpha p n t z a          α: among these the one whose first coefficient that is not zero is smallest

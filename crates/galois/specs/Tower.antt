@@ -2,7 +2,7 @@
 -- other exponents; step 3 of the algorithm, a·α^(p − 1), is the one that is right.
 --   PowerOf p n               n = p^k for some k ≥ 1
 --   exponent p n              that k; 0 where there is none
---   artin_schreier p n t a     the solution of v^p = v + a modulo T with constant coefficient 0
+--   artin_schreier p n t a    the solution of v^p = v + a modulo T with constant coefficient 0
 --   ArtinSchreier p n t a v   the same as a statement
 --   raised p t a α            a·α^(p − 1) modulo T
 --   rounds p n t k            a and α after k rounds: both are 1 at the start; in a round a becomes a·α^(p − 1), and then α the solution of v^p = v + a

@@ -1,8 +1,8 @@
 -- The degrees of the factors of X^(p^n) − X add up to p^n. More generally: if T divides it, and a list without repetition has exactly the divisors of T that
--- have themselves no proper divisor, then their degrees add up to that of T. Induction on the list: T = E-as-D for its first D; no square divides T, so D does not
+-- have themselves no proper divisor, then their degrees add up to that of T. Induction on the list: T = E·D for its first D; no square divides T, so D does not
 -- divide E, and the others are exactly the divisors of E of that kind; where the list is empty, T has no divisor of that kind, so its degree is 0.
 --   Factor p t d        d gives a monic divisor of T of degree at least 1 without proper divisors
---   degree_sum ds        the sum of the degrees
+--   degree_sum ds       the sum of the degrees
 --   AllFactors j t ds   T is of degree j and divides X^(p^n) − X, and ds has exactly its factors, each once
 use mathlib.Core.Path.{◌≡◌, refl, subst}
 use mathlib.Core.List.{List, [], ◌∷◌}

@@ -1,4 +1,4 @@
--- Divisors of monic polynomials, by reduction modulo them: a divisor has at most the degree of what it divides; a D without proper divisors that divides E-as-D1
+-- Divisors of monic polynomials, by reduction modulo them: a divisor has at most the degree of what it divides; a D without proper divisors that divides E·D1
 -- divides E or D1, for modulo D the residues are a field; and it divides a D1 without proper divisors only where they are equal.
 --   Irreducible p m d   d is m + 1 words, and their monic polynomial has no monic divisor of degree 1 to m
 use mathlib.Core.Path.{◌≡◌, sym, ap, subst, ◌∙◌}
@@ -49,7 +49,7 @@ module _ {p m : ℕ} {d : List ℕ} (big : 2 ≤ p) (wd : Words p (suc m) d) whe
       by_size (yes l) = l
       by_size (no l) = absurd (lower_degree_nonzero wt (omega arith) (divides_zero big wd t h))
 
-  -- T = E-as-D1 modulo D
+  -- T = E·D1 modulo D
   pub reduce_factors : (e d1 t : List ℕ) → Same p (polynomial_product p (monic e) (monic d1)) (monic t)
       → K.mul (reduce big wd (monic e)) (reduce big wd (monic d1)) ≡ reduce big wd (monic t)
   reduce_factors e d1 t same =

@@ -1,4 +1,4 @@
--- No square divides X^(p^n) − X: let T divide it, T = E-as-D and E = D-as-F. Modulo T every residue u satisfies u^(p^n) = u, since X does; but E-as-E = E·D·F = T-as-F = 0
+-- No square divides X^(p^n) − X: let T divide it, T = E·D and E = D·F. Modulo T every residue u satisfies u^(p^n) = u, since X does; but E·E = E·D·F = T·F = 0
 -- modulo T, so E = 0 modulo T, which is not so, for E is monic of lower degree than T.
 use mathlib.Core.Path.{◌≡◌, sym, ap, ◌∙◌}
 use mathlib.Core.List.{List}

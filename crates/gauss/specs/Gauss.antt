@@ -1,8 +1,8 @@
 -- Gauss's formula: m times the number of models of degree m without proper divisors, summed over the divisors m of n, is p^n. It counts the models of a size without a search; no call
 -- rests on it.
---   divisors n       the numbers from 1 to n that divide n
+--   divisors n        the numbers from 1 to n that divide n
 --   degrees_of p ms   the sum of m·N(m) over the m of ms, where N(m) is the number of `models` of degree m modulo p
---   GaussFormula     for every prime p and every n ≥ 1 that sum over the divisors of n is p^n
+--   GaussFormula      for every prime p and every n ≥ 1 that sum over the divisors of n is p^n
 use Rattle.std.specs.Prelude.{◌≡◌, List, [], ◌∷◌, ℕ, suc, ◌+◌, ◌*◌, ◌%◌, ◌^◌, eqb, length}
 use Rattle.algebra.specs.Lists.{filter, range}
 use Rattle.algebra.specs.Prime.{Prime}

@@ -1,6 +1,6 @@
 -- The call for one modulus (request S-3: "refuse moduli with a proper divisor, for every n up to 16").
 --   irreducible_number p n t   its answer: 1, 2, 3, 4, then 6 where T has a monic divisor of degree 1 to n − 1, or 0
---   IrreducibleTheorem        what the answer 0 means: a model without such a divisor, so that every residue but 0 has an inverse
+--   IrreducibleTheorem         what the answer 0 means: a model without such a divisor, so that every residue but 0 has an inverse
 use Rattle.std.specs.Prelude.{◌≡◌, List, [], ◌∷◌, ℕ}
 use Rattle.quotient.specs.Divisor.{HasDivisor}
 use Rattle.quotient.specs.DivisorTest.{has_divisor}

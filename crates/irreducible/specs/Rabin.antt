@@ -1,9 +1,9 @@
 -- Rabin's criterion: when a modulus T of degree n has no monic divisor of degree 1 to n − 1. It is a theorem; no contract of a public call rests on its words.
 --   conjugate_of_x p t k   X^(p^k) modulo T
---   difference p t k     X^(p^k) − X modulo T
---   Passes p n t q       if q divides n, X^(p^(n/q)) − X has an inverse modulo T
---   Rabin p t            X^(p^n) = X modulo T, and for each prime q that divides n, X^(p^(n/q)) − X has an inverse modulo T
---   RabinsCriterion      for every prime p, every n ≥ 1 and every monic T of degree n: T has no such divisor exactly when it satisfies Rabin's conditions
+--   difference p t k       X^(p^k) − X modulo T
+--   Passes p n t q         if q divides n, X^(p^(n/q)) − X has an inverse modulo T
+--   Rabin p t              X^(p^n) = X modulo T, and for each prime q that divides n, X^(p^(n/q)) − X has an inverse modulo T
+--   RabinsCriterion        for every prime p, every n ≥ 1 and every monic T of degree n: T has no such divisor exactly when it satisfies Rabin's conditions
 use Rattle.std.specs.Prelude.{◌≡◌, List, ◌↔◌, ℕ, suc, ◌-◌, ◌/◌, ◌%◌, length}
 use Rattle.algebra.specs.Prime.{Prime}
 use Rattle.array.specs.Words.{Words}

@@ -1,4 +1,4 @@
--- T1 has a root modulo T2. With N = p^n let X^N − X = G-as-T1, G monic of degree N − n. Each of the N residues modulo T2 is a root of the left side; at most N − n of them are
+-- T1 has a root modulo T2. With N = p^n let X^N − X = G·T1, G monic of degree N − n. Each of the N residues modulo T2 is a root of the left side; at most N − n of them are
 -- roots of G, so that some residue is not, and it is a root of T1.
 use mathlib.Core.Path.{◌≡◌, sym, ap, ◌∙◌}
 use mathlib.Core.List.{List}

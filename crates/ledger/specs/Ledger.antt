@@ -1,16 +1,16 @@
 -- The ledger of conversions (document 02, S-2): "up to 512 records, each a direction and a 32-bit number of residues".
 --   most_records       512
---   none              what stands where there is no record
+--   none               what stands where there is no record
 --   new_ledger         no records
 --   records_of l       the records that count, the first l .count of the array
---   added l x         l with the record x behind those that count
+--   added l x          l with the record x behind those that count
 --   residues_in d x    the residues of the record x where its direction is d, else 0
---   total d xs        "each total is the number of residues" of the records of its direction
---   letter d          "`F` or `B`"
---   number k          "a decimal number and a newline"
---   line x            a record, "as `F` or `B`, a blank, the decimal number and a newline"
---   lines xs          "the records in order"
---   report xs         the lines, "then the forward and the back total, each a decimal number and a newline"
+--   total d xs         "each total is the number of residues" of the records of its direction
+--   letter d           "`F` or `B`"
+--   number k           "a decimal number and a newline"
+--   line x             a record, "as `F` or `B`, a blank, the decimal number and a newline"
+--   lines xs           "the records in order"
+--   report xs          the lines, "then the forward and the back total, each a decimal number and a newline"
 use Rattle.std.specs.Prelude.{List, [], ◌∷◌, ◌++◌, ℕ, ◌+◌, take, set, replicate}
 use Rattle.text.specs.Ascii.{ascii}
 use Rattle.text.specs.Digits.{decimal}

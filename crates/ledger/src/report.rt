@@ -1,7 +1,7 @@
 // The report: the records in order, a line each, then the two totals.
 ghost use Rattle.std.specs.Prelude.{[], ◌∷◌, ◌≡◌, ◌+◌, ◌*◌, ◌≤◌, length};
 ghost use Rattle.text.specs.Text.{Appended};
-ghost use Rattle.ledger.specs.Ledger.{most_records, records_of, letter as letterOf, number, line, lines, report as reportOf};
+ghost use Rattle.ledger.specs.Ledger.{most_records, records_of, letter as letter_of, number, line, lines, report as report_of};
 
 use crate::total::total;
 use crate::{Direction, Ledger, Record};
@@ -10,7 +10,7 @@ use text::decimal::{decimal_length, put_decimal};
 
 // `F` or `B`.
 fn letter(direction: Direction) -> u8
-    ensures { (result ∷ []) ≡ letterOf direction }
+    ensures { (result ∷ []) ≡ letter_of direction }
 {
     match direction {
         Direction::Forward => b'F',
@@ -55,8 +55,8 @@ fn put_records(text: &mut [u8], ledger: Ledger) -> usize
 
 // The report, into a list of its length.
 pub fn put_report(text: &mut [u8], ledger: Ledger)
-    requires { (ledger.count ≤ most_records) × (length text.old ≡ length (reportOf (records_of ledger))) }
-    ensures { text.new ≡ reportOf (records_of ledger) }
+    requires { (ledger.count ≤ most_records) × (length text.old ≡ length (report_of (records_of ledger))) }
+    ensures { text.new ≡ report_of (records_of ledger) }
 {
     let totals = put_records(text, ledger);
     let back = put_number(text, totals, total(Direction::Forward, ledger));
@@ -95,7 +95,7 @@ fn lines_length(ledger: Ledger) -> usize
 // How long the report is.
 pub fn report_length(ledger: Ledger) -> usize
     requires { ledger.count ≤ most_records }
-    ensures { result ≡ length (reportOf (records_of ledger)) }
+    ensures { result ≡ length (report_of (records_of ledger)) }
 {
     let forward = number_length(total(Direction::Forward, ledger));
     let back = number_length(total(Direction::Back, ledger));

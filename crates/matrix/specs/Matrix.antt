@@ -1,16 +1,16 @@
 -- The powers of a residue S, or its multiples X^k·S, as the columns of a matrix, and the product of a matrix with a residue.
---   Powers p k t s m        column j of m holds S^j modulo T, for j < k
---   Frobenius p n t m       column j of m holds (X^p)^j modulo T, for j < n: where p is prime, the matrix of u ↦ u^p
---   multiple p t s k        X^k·S modulo T
---   Multiples p k t s m     column j of m holds X^j·S modulo T, for j < k, and all words of m are below p
---   Placed n j u m m'       m' is m with the first n words of u in column j
---   Kept n m m'             from column n on m' is as m is
---   column n m j            the first n words of column j
+--   Powers p k t s m         column j of m holds S^j modulo T, for j < k
+--   Frobenius p n t m        column j of m holds (X^p)^j modulo T, for j < n: where p is prime, the matrix of u ↦ u^p
+--   multiple p t s k         X^k·S modulo T
+--   Multiples p k t s m      column j of m holds X^j·S modulo T, for j < k, and all words of m are below p
+--   Placed n j u m m'        m' is m with the first n words of u in column j
+--   Kept n m m'              from column n on m' is as m is
+--   column n m j             the first n words of column j
 --   matrix_product p n m u   the products of the first n rows with u, modulo p
---   dot f u                 f 0·u_0 + f 1·u_1 + …, over all words of u
---   Rows p n m              the matrix has 256 words, and its first n rows n words below p and zeros after them
---   Begins n u w            the array w has 16 words of 32 bits, and the first n are those of u
---   Factors p n i m u       of row i of m and of the array u the first n words are below p, and of each later two one is 0
+--   dot f u                  f 0·u_0 + f 1·u_1 + …, over all words of u
+--   Rows p n m               the matrix has 256 words, and its first n rows n words below p and zeros after them
+--   Begins n u w             the array w has 16 words of 32 bits, and the first n are those of u
+--   Factors p n i m u        of row i of m and of the array u the first n words are below p, and of each later two one is 0
 use Rattle.std.specs.Prelude.{◌≡◌, List, [], ◌∷◌, map, ℕ, zero, suc, ◌+◌, ◌*◌, ◌%◌, ◌≤◌, ◌<◌, length, get_or, take}
 use Rattle.algebra.specs.Lists.{range}
 use Rattle.array.specs.Array.{entry, Square, row_product}

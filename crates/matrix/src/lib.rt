@@ -1,7 +1,7 @@
 // The matrix of u ↦ u(S) on residues: its columns are the powers of S, worked out once for many substitutions.
 //   powers      the matrix, and its columns
 //   frobenius   the matrix of u ↦ u^p
-//   multiples   the matrix of u ↦ typeof.u.S, by which many powers are worked out
+//   multiples   the matrix of u ↦ u·S, by which many powers are worked out
 //   product     the product of a matrix with a residue
 //   words       the product of a matrix with a list of words
 #![tactic(auto)]

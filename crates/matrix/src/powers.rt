@@ -3,7 +3,7 @@
 ghost use Rattle.std.specs.Prelude.{◌≡◌, ◌^◌, ◌≤◌, ◌<◌, length, take};
 ghost use Rattle.array.specs.Array.{padded, Holds};
 ghost use Rattle.modular.specs.Barrett.{Reduces};
-ghost use Rattle.matrix.specs.Matrix.{Powers, Placed, Kept, column as columnOf};
+ghost use Rattle.matrix.specs.Matrix.{Powers, Placed, Kept, column as column_of};
 
 use crate::multiples::multiples;
 use crate::product::products;
@@ -40,7 +40,7 @@ fn few_powers(d: Barrett, n: usize, t: &[u64; 16], s: &[u64; 16], m: &mut [u64; 
     }
 }
 
-// The same by the matrix of u ↦ typeof.u.S. All its 16 columns are taken, because a sum of a known number of products is faster.
+// The same by the matrix of u ↦ u·S. All its 16 columns are taken, because a sum of a known number of products is faster.
 fn many_powers(d: Barrett, n: usize, t: &[u64; 16], s: &[u64; 16], m: &mut [u64; 256])
     requires reduces { Reduces d × (2 ≤ n) × (n ≤ 16) }
     requires holds { Holds d.p n t.now × Holds d.p n s.now }
@@ -60,7 +60,7 @@ fn many_powers(d: Barrett, n: usize, t: &[u64; 16], s: &[u64; 16], m: &mut [u64;
     }
 }
 
-// The same by the way that is faster: the matrix of u ↦ typeof.u.S is worth its cost from degree 7 on.
+// The same by the way that is faster: the matrix of u ↦ u·S is worth its cost from degree 7 on.
 fn higher_powers(d: Barrett, n: usize, t: &[u64; 16], s: &[u64; 16], m: &mut [u64; 256])
     requires reduces { Reduces d × (2 ≤ n) × (n ≤ 16) }
     requires holds { Holds d.p n t.now × Holds d.p n s.now }
@@ -94,7 +94,7 @@ pub fn powers(p: u64, n: usize, t: &[u64; 16], s: &[u64; 16], m: &mut [u64; 256]
 // Column j of a matrix.
 pub fn column(n: usize, m: &[u64; 256], j: usize) -> [u64; 16]
     requires { (n ≤ 16) × (j < 16) × (length m.now ≡ 256) }
-    ensures { result ≡ padded (columnOf n m.now j) }
+    ensures { result ≡ padded (column_of n m.now j) }
 {
     let mut w = [0; 16];
     let mut i = 0;

@@ -1,7 +1,7 @@
 -- The words below p with sum and product modulo p: a commutative ring for p ≥ 2, and a field for a prime p, with the inverse that `inverse`
 -- finds by search.
---   Below p              the numbers below p
---   modulo p h n         n modulo p, where h : 2 ≤ p
+--   Below p               the numbers below p
+--   modulo p h n          n modulo p, where h : 2 ≤ p
 --   word_ring p h         the ring; its operations are those of specs/ by the laws `…-value`
 --   word_field p prime    the field; prime_ring p prime is its ring
 --   nonzero_words p h     the list of the p − 1 words other than 0

@@ -1,11 +1,11 @@
 -- The primes of document 01, "p is a prime from 2 to 65,535", up to the end of request S-9: "p up to 1,048,575".
---   largest_prime             no prime of a call is larger: 1,048,575
---   is_prime p                2 ≤ p ≤ 1,048,575, and no d with 2 ≤ d < p divides p
+--   largest_prime            no prime of a call is larger: 1,048,575
+--   is_prime p               2 ≤ p ≤ 1,048,575, and no d with 2 ≤ d < p divides p
 --   PrimeTestIsExact         the test is true exactly of the primes up to 1,048,575
 -- What the contracts of trial division cite:
 --   first_divisor p numbers   the first of the numbers that divides p, or p
---   Complete numbers         what is used of the table of primes, each fact a computed test: its 172 numbers are primes, each d from 2 to 1,023 is divided by
---                            one of them, and from the 55th on they are 256 or more
+--   Complete numbers          what is used of the table of primes, each fact a computed test: its 172 numbers are primes, each d from 2 to 1,023 is divided by
+--                             one of them, and from the 55th on they are 256 or more
 use Rattle.std.specs.Prelude.{◌≡◌, Bool, true, ◌&&◌, not, List, ◌↔◌, ℕ, ◌-◌, ◌%◌, ◌≤◌, leb, eqb, length, drop}
 use Rattle.algebra.specs.Lists.{all, range, first}
 use Rattle.algebra.specs.Prime.{Prime}

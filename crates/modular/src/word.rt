@@ -1,7 +1,7 @@
 // Arithmetic modulo p on words below p, for p up to 2^20. Only this repository calls these functions, so they state what they require.
 ghost use Rattle.std.specs.Prelude.{◌≡◌, ◌+◌, ◌-◌, ◌*◌, ◌%◌, ◌^◌, ◌≤◌, ◌<◌, ◌⊎◌};
 ghost use Rattle.algebra.specs.Prime.{Prime};
-ghost use Rattle.modular.specs.Inverse.{inverse as inverseOf};
+ghost use Rattle.modular.specs.Inverse.{inverse as inverse_of};
 
 use crate::barrett::Barrett;
 
@@ -87,7 +87,7 @@ fn cofactor(p: u64, a: u64) -> u64
 pub fn inverse(p: u64, a: u64) -> u64
     requires prime { Prime p }
     requires p_bound { (p ≤ 1048576) × (0 < a) × (a < p) }
-    ensures { (result ≡ inverseOf p a) × (result < p) }
+    ensures { (result ≡ inverse_of p a) × (result < p) }
 {
     let t = cofactor(p, a);
     if mul(p, a, t) == 1 { t } else { p - t }

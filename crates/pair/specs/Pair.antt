@@ -1,10 +1,10 @@
 -- The pair and its checker (document 01, "The pair and its checker"). S and R are lists of n words, each below p.
---   forward p t2 s u              the forward map sends u to u(S) mod T2
---   backward p t1 r u             the backward map sends u to u(R) mod T1
---   Congruences p t1 t2 s r       T1(S) = 0 mod T2, T2(R) = 0 mod T1, S(R) = X mod T1, R(S) = X mod T2
+--   forward p t2 s u               the forward map sends u to u(S) mod T2
+--   backward p t1 r u              the backward map sends u to u(R) mod T1
+--   Congruences p t1 t2 s r        T1(S) = 0 mod T2, T2(R) = 0 mod T1, S(R) = X mod T1, R(S) = X mod T2
 --   congruences_hold p t1 t2 s r   the same four as a test
 --   refuse_pair p t1 t2 s r        what comes after 4 for a pair (request S-3: "Use 6 and 7, between 4 and 8"): 6 where T1 has a monic divisor of degree
---                                 1 to n − 1, 7 where T2 has one, 8 where a congruence fails, else 0
+--                                  1 to n − 1, 7 where T2 has one, 8 where a congruence fails, else 0
 --   check_number p n t1 t2 s r     the checker's answer: 1, 2, 3, 4, 6, 7, 8, or 0 where it accepts
 --   check_number_or b p n t1 t2 s r   the same where 3 also covers b: an output list has not its exact length
 use Rattle.std.specs.Prelude.{◌≡◌, Bool, false, ◌&&◌, not, List, [], ◌∷◌, ℕ, length}

@@ -7,7 +7,7 @@ use Rattle.pair.specs.Pair.{check_number}
 use Rattle.finder.proofs.Theorem.{accepted_pair}
 use Rattle.held.specs.Held.{View, empty, loaded, paired, view, view_as, valid_held, valid_as, t1_of, t2_of, s_of, r_of, new_held, loaded_held, paired_held}
 use Rattle.pairing.specs.Pairing.{answer, load_from, load, propose_from, propose, find_from, find}
-use Rattle.pairing.specs.Theorem.{Reached, is_new, is_loaded, is_paired_lem, CallsReach, RefusalsKeep, CountsAsHeld}
+use Rattle.pairing.specs.Theorem.{Reached, is_new, is_loaded, has_pair, CallsReach, RefusalsKeep, CountsAsHeld}
 use Rattle.held.specs.ViewState.{view_state}
 use Rattle.held.specs.declared.Held.{Held}
 use Rattle.held.specs.declared.State.TheVariants.{Paired}
@@ -72,16 +72,16 @@ unfolding propose propose_from answer
 propose_reaches is_new s r = rw view_new is_new
 propose_reaches (is_loaded p n t1 t2 m) s r =
     rw (view-loaded m, ← check_models p n t1 t2 s r m)
-    (answer_reaches _ (loaded_held p n t1 t2) _ (is_loaded p n t1 t2 m) (is_paired_lem p n t1 t2 s r))
-propose_reaches (is_paired_lem p n t1 t2 u v h) s r = rw (view-paired (accepted_given p n 0 t1 t2 u v (sym h) refl)) (is_paired_lem p n t1 t2 u v h)
+    (answer_reaches _ (loaded_held p n t1 t2) _ (is_loaded p n t1 t2 m) (has_pair p n t1 t2 s r))
+propose_reaches (has_pair p n t1 t2 u v h) s r = rw (view-paired (accepted_given p n 0 t1 t2 u v (sym h) refl)) (has_pair p n t1 t2 u v h)
 
 find_reaches : {x : Held} → Reached x → Reached (find x).held
 unfolding find find_from answer
 find_reaches is_new = rw view_new is_new
 find_reaches (is_loaded p n t1 t2 m) =
     rw (view-loaded m)
-    (answer_reaches _ (loaded_held p n t1 t2) _ (is_loaded p n t1 t2 m) (λ e. is_paired_lem p n t1 t2 _ _ (accepted_pair p n t1 t2 m e)))
-find_reaches (is_paired_lem p n t1 t2 s r h) = rw (view-paired (accepted_given p n 0 t1 t2 s r (sym h) refl)) (is_paired_lem p n t1 t2 s r h)
+    (answer_reaches _ (loaded_held p n t1 t2) _ (is_loaded p n t1 t2 m) (λ e. has_pair p n t1 t2 _ _ (accepted_pair p n t1 t2 m e)))
+find_reaches (has_pair p n t1 t2 s r h) = rw (view-paired (accepted_given p n 0 t1 t2 s r (sym h) refl)) (has_pair p n t1 t2 s r h)
 
 pub calls_reach : CallsReach
 unfolding load
@@ -97,13 +97,13 @@ pub reached_valid : {x : Held} → Reached x → valid_held x ≡ true
 unfolding valid_held valid_as
 reached_valid is_new = refl
 reached_valid (is_loaded p n t1 t2 m) = loaded_held_valid m
-reached_valid (is_paired_lem p n t1 t2 s r h) = paired_held_valid (accepted_given p n 0 t1 t2 s r (sym h) refl)
+reached_valid (has_pair p n t1 t2 s r h) = paired_held_valid (accepted_given p n 0 t1 t2 s r (sym h) refl)
 
 -- a value that is reached and counts as paired has a pair that the checker accepts
 pub reached_accepted : {x : Held} → Reached x → view_state (view x) ≡ Paired → check_number x.p x.n (t1_of x) (t2_of x) (s_of x) (r_of x) ≡ 0
 unfolding view_state paired_held
 reached_accepted is_new e = let z : view_state empty ≡ Paired = rw view_new at e in cc
 reached_accepted (is_loaded p n t1 t2 m) e = let z : view_state (loaded p n t1 t2) ≡ Paired = rw (view-loaded m) at e in cc
-reached_accepted (is_paired_lem p n t1 t2 s r h) e =
+reached_accepted (has_pair p n t1 t2 s r h) e =
     let g : Given p n t1 t2 s r = accepted_given p n 0 t1 t2 s r (sym h) refl in
     rw (front_held g.models.modulus1, front_held g.models.modulus2, front_held g.words_s, front_held g.words_r) h

@@ -13,7 +13,7 @@ use Rattle.pairing.specs.Pairing.{load, propose, find}
 pub data Reached : Held → Type 0 where
   is_new : Reached new_held
   is_loaded : (p n : ℕ) (t1 t2 : List ℕ) → Models p n t1 t2 → Reached (loaded_held p n t1 t2)
-  is_paired_lem : (p n : ℕ) (t1 t2 s r : List ℕ) → check_number p n t1 t2 s r ≡ 0 → Reached (paired_held p n t1 t2 s r)
+  has_pair : (p n : ℕ) (t1 t2 s r : List ℕ) → check_number p n t1 t2 s r ≡ 0 → Reached (paired_held p n t1 t2 s r)
 
 pub record CallsReach : Type 0 where
   pub load_reaches : {x : Held} → Reached x → (p n : ℕ) (t1 t2 : List ℕ) → Reached (load x p n t1 t2).held

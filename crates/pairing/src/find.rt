@@ -2,7 +2,7 @@
 ghost use Rattle.std.specs.Prelude.{true, [], ◌∷◌, ◌≡◌, length, take};
 ghost use Rattle.refusal.specs.Models.{Models};
 ghost use Rattle.held.specs.Held.{loaded, valid};
-ghost use Rattle.pairing.specs.Pairing.{find_from, find as findOf};
+ghost use Rattle.pairing.specs.Pairing.{find_from, find as find_of};
 
 use crate::HeldStep;
 use array::Word;
@@ -60,7 +60,7 @@ fn find_loaded(x: Held, p: u32, n: u32, t1: [Word; DEGREE], t2: [Word; DEGREE]) 
 
 // The models with the finder's pair: 21, 24, 5, 6, 7.
 pub fn find(x: Held) -> HeldStep
-    ensures { result ≡ findOf x }
+    ensures { result ≡ find_of x }
 {
     let state = counts_as(x);
     let t1 = x.t1;

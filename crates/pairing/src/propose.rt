@@ -2,7 +2,7 @@
 ghost use Rattle.std.specs.Prelude.{true, [], ◌∷◌, ◌≡◌, take};
 ghost use Rattle.refusal.specs.Models.{Models};
 ghost use Rattle.held.specs.Held.{loaded, valid};
-ghost use Rattle.pairing.specs.Pairing.{propose_from, propose as proposeOf};
+ghost use Rattle.pairing.specs.Pairing.{propose_from, propose as propose_of};
 
 use crate::HeldStep;
 use array::Word;
@@ -56,7 +56,7 @@ fn propose_loaded(
 
 // The models with a pair that the checker accepts: 21, 24, 3, 4, 6, 7, 8.
 pub fn propose(x: Held, s: &[Word], r: &[Word]) -> HeldStep
-    ensures { result ≡ proposeOf x s.now r.now }
+    ensures { result ≡ propose_of x s.now r.now }
 {
     let state = counts_as(x);
     let t1 = x.t1;

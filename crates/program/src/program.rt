@@ -43,8 +43,8 @@ fn write_text<W: Write>(writer: &mut W, text: &[u8]) -> io::Result<()>
 }
 
 // Reads a card and writes the answer. The buffer holds one byte more than the longest card: an input that fills it is too long, whatever follows. Where
-// the bytes that the reader has are known, the answer is that to all of them, and for any reader it is that to some bytes that were read. Where a read or
-// a write fails, some bytes were read, and a first part of the answer to them was written.
+// the reader's bytes are known, the answer is that to all of them, and the bytes of the card are those that it lost. Where a read or a write fails, some
+// bytes were read, and a first part of the answer to them was written.
 pub fn run<R: Read, W: Write>(reader: &mut R, writer: &mut W) -> io::Result<()>
     ensures answered { OnOk result (IfSome (R.remaining reader.old)
         (λ bytes. Appends (W.contents writer.old) (W.contents writer.new) (answer_text bytes))) }

@@ -1,4 +1,4 @@
--- If a monic D divides T, then T = D-as-E with a monic E, and E divides T too; the degrees of D and E add up to that of T. So a T with a divisor of
+-- If a monic D divides T, then T = D·E with a monic E, and E divides T too; the degrees of D and E add up to that of T. So a T with a divisor of
 -- degree 1 to n − 1 has one of degree 1 to n/2. The quotient of T by D shows E: each of its words is the top word of the remainder of
 -- the words behind it, so it is 0 where fewer than deg D words stand behind it, and 1 where they are deg D and the last is the 1 of T; n − deg D words come before.
 --   MonicQuotient j s   the quotient by D of the monic polynomial with the lower words s is monic of degree j, with zeros at its end
@@ -62,7 +62,7 @@ module _ {p m : ℕ} {d : List ℕ} (big : 2 ≤ p) (wd : Words p (suc m) d) whe
     unfolding reduce
     remainder_zero = ap (λ u. u.0) (sym (evaluate_x big wd (monic t)) ∙ divides_zero big wd t h) ∙ zero_is big wd ∙ constant-zero (suc m)
 
-    -- T = E-as-D in every module
+    -- T = E·D in every module
     cofactor_acts : (e : List ℕ) → quotient big wd (monic t) ≡ monic e ++ replicate (suc m) 0
         → (G : Type 0) (M : PolynomialModule p G) (v : G) → act M (polynomial_product p (monic e) (monic d)) v ≡ act M (monic t) v
     cofactor_acts e q G M v =
@@ -73,7 +73,7 @@ module _ {p m : ℕ} {d : List ℕ} (big : 2 ≤ p) (wd : Words p (suc m) d) whe
         ∙ ap₂ M.add (ap (act M (monic d)) quotient_acts) (ap (λ r. act M r v) remainder_zero ∙ act_zeros M (suc m) v)
         ∙ M.add-zero _)
 
-    -- T = E-as-D with a monic E
+    -- T = E·D with a monic E
     pub cofactor : (j n : ℕ) → n ≡ suc m + j → Words p n t → (e : List ℕ) × Words p j e × Same p (polynomial_product p (monic e) (monic d)) (monic t)
     cofactor j n l wt =
         let (e, we, q) = quotient_monic j n t l wt in

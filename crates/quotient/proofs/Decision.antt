@@ -1,7 +1,7 @@
 -- Whether T has a divisor of degree 1 to n − 1 is decided by trying every monic D of such a degree: D divides T exactly when T modulo D is 0,
 -- and the list of residues has the lower words of every D.
 --   test_has_divisor, has_divisor_test   the two halves of "the test is exact"
---   has-divisor?                         so there is a divisor, or there is none
+--   has_divisor?                         so there is a divisor, or there is none
 --   irreducible_test, test_irreducible   there is none exactly where the test fails
 use mathlib.Core.Path.{◌≡◌, refl, sym, ap, ap₂, ◌∙◌}
 use mathlib.Core.Bool.{Bool, true, false, not, true≢false}

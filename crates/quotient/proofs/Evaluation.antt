@@ -2,7 +2,7 @@
 -- acting as multiplication by s; f acts as multiplication by f(s), so the laws of f(s) are those of the action. Over a field a monic polynomial has at most as many roots as
 -- its degree says.
 --   evaluate R f s   f(s), the coefficients read as multiples of 1
---   module_at s       the ring as a module, X acting as multiplication by s
+--   module_at s      the ring as a module, X acting as multiplication by s
 use mathlib.Core.Path.{◌≡◌, refl, sym, ap, ap₂, ◌∙◌}
 use mathlib.Core.List.{List, [], ◌∷◌, map}
 use Prim.Native.Nat.{ℕ, zero, suc, ◌≤◌}

@@ -1,10 +1,10 @@
 -- The residues modulo T are a commutative ring. X·u makes them a module over the polynomials, the product is the action, u·v = u(X)·v, and
 -- u = u(X)·1. So the product is commutative because polynomials in X commute, and associative because u ↦ u·w is linear.
---   add_residue, mul_residue                     sum and product of residues
+--   add_residue, mul_residue                      sum and product of residues
 --   constant_residue, zero_residue, one_residue   the constants; 0 and 1
---   x_residue                                   X modulo T
---   residue_module                              the residues as a module, X acting as times_x
---   residue_ring                                the residues as a commutative ring
+--   x_residue                                     X modulo T
+--   residue_module                                the residues as a module, X acting as times_x
+--   residue_ring                                  the residues as a commutative ring
 use mathlib.Core.Path.{◌≡◌, refl, sym, ap, ap₂, subst, fun_ext, ◌∙◌}
 use mathlib.Core.HLevel.{hedberg}
 use mathlib.Core.List.{List, [], ◌∷◌, ◌++◌, append-nil}

@@ -77,7 +77,7 @@ module _ {p n : ℕ} {t : List ℕ} (prime : Prime p) (wt : Words p (suc n) t) (
   abbrev ZeroOrUnit : ℕ → List ℕ → Type 0
   ZeroOrUnit m w = (w ≡ replicate m 0) ⊎ Invertible K (modulo w)
 
-  -- T = D-as-E + R is 0 modulo T
+  -- T = D·E + R is 0 modulo T
   division_vanishes : (d r : List ℕ) (h : Remainder p d (monic t) r) → K.add (K.mul (modulo (monic d)) (modulo h.0)) (modulo r) ≡ K.zero
   division_vanishes d r (e, _, same) =
       let DE = polynomial_product p (monic d) e in

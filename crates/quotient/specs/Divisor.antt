@@ -1,11 +1,11 @@
 -- Polynomials modulo p and their divisors (document 01: "A divisor of T is a polynomial D with D·E = T modulo p for some polynomial E").
 -- A polynomial is a list of coefficients, constant first.
---   Same p f g               f = g modulo p, coefficient by coefficient
+--   Same p f g                f = g modulo p, coefficient by coefficient
 --   polynomial_product p f g  f·g
---   monic t                  the monic polynomial with the lower words t
---   Divides p d t            the monic polynomial of d divides that of t
---   HasDivisor p t           T, of degree n, has a monic divisor of degree 1 to n − 1
---   Remainder p t f r        r is the remainder of f on division by the monic polynomial of t
+--   monic t                   the monic polynomial with the lower words t
+--   Divides p d t             the monic polynomial of d divides that of t
+--   HasDivisor p t            T, of degree n, has a monic divisor of degree 1 to n − 1
+--   Remainder p t f r         r is the remainder of f on division by the monic polynomial of t
 use Rattle.std.specs.Prelude.{◌≡◌, List, [], ◌∷◌, ◌++◌, ℕ, ◌%◌, ◌<◌, length, get_or}
 use Rattle.array.specs.Words.{Words}
 use Rattle.quotient.specs.Residue.{sum, scale}

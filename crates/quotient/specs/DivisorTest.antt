@@ -1,6 +1,6 @@
 -- The test for divisors: whether T has a monic divisor of degree 1 to n − 1, by trying every monic D of such a degree.
---   divides_test p d t    whether the monic polynomial of d divides that of t: its remainder, the value of T at X modulo D, is 0
---   has_divisor p t       whether T has a divisor of degree 1 to n − 1: not every D of such a degree leaves a remainder
+--   divides_test p d t   whether the monic polynomial of d divides that of t: its remainder, the value of T at X modulo D, is 0
+--   has_divisor p t      whether T has a divisor of degree 1 to n − 1: not every D of such a degree leaves a remainder
 --   DivisorTestIsExact   it has one exactly when the test says so
 use Rattle.std.specs.Prelude.{◌≡◌, Bool, true, not, List, ◌↔◌, ℕ, ◌-◌, ◌≤◌, eqb, length}
 use Rattle.algebra.specs.Lists.{all, range}

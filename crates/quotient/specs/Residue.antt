@@ -1,21 +1,21 @@
 -- Residues modulo a monic polynomial (document 01, "Models and residues").
 -- A modulus T = X^n + t(n−1)X^(n−1) + … + t0 is given by the list t of its n lower words, constant first. A residue is n words,
 -- each below p, in the same order: a polynomial of degree below n, taken modulo p and T.
---   Residue p n          the residues
---   residues p n         the list of all of them, in ascending order: coefficients compared from the highest power down (Ascending.antt of the crate array)
+--   Residue p n           the residues
+--   residues p n          the list of all of them, in ascending order: coefficients compared from the highest power down (Ascending.antt of the crate array)
 --   first_residue p t b   the first residue modulo T that passes the test b; 0 where none does
---   sum p u v            u + v, coefficient by coefficient; also of polynomials of different degrees
---   scale p c u          c·u
---   constant n c         the constant c
+--   sum p u v             u + v, coefficient by coefficient; also of polynomials of different degrees
+--   scale p c u           c·u
+--   constant n c          the constant c
 --   times_x p t u         X·u modulo T: u shifted up by one place, minus its top coefficient times t
---   product p t u v      u·v modulo T, by Horner's rule in u
---   power p t u k        u^k modulo T
---   conjugate p t u k    u^(p^k) modulo T
---   residue_of_x p t       X modulo T; for n = 1 the constant −t0
---   substitute p t s u   u(S) modulo T, by Horner's rule
+--   product p t u v       u·v modulo T, by Horner's rule in u
+--   power p t u k         u^k modulo T
+--   conjugate p t u k     u^(p^k) modulo T
+--   residue_of_x p t      X modulo T; for n = 1 the constant −t0
+--   substitute p t s u    u(S) modulo T, by Horner's rule
 --   modulus_at p t s m    M(S) modulo T, where M is the monic polynomial with the lower words m
---   HasInverse p t u     u·v = 1 modulo T for some residue v
---   Inverses p n t       every residue modulo T but 0 has an inverse
+--   HasInverse p t u      u·v = 1 modulo T for some residue v
+--   Inverses p n t        every residue modulo T but 0 has an inverse
 use Rattle.std.specs.Prelude.{◌≡◌, Bool, List, [], ◌∷◌, ◌++◌, map, ℕ, zero, suc, ◌+◌, ◌-◌, ◌*◌, ◌%◌, ◌^◌, length, replicate}
 use Rattle.algebra.specs.Lists.{range, first}
 use Rattle.array.specs.Words.{Words}

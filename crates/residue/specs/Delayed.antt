@@ -1,10 +1,10 @@
 -- Words whose reduction modulo p is put off, inside the product of two residues. The rows of a product stand in two arrays: those of the words of u with an even
 -- index in e, those with an odd index in o, one place lower than they count.
 --   reduced p u               each word of u modulo p
---   times_x_if b p t s          X·s modulo T, or s where b is false
+--   times_x_if b p t s        X·s modulo T, or s where b is false
 --   Delayed p n k s xs        the array xs holds n words that are s modulo p, each at most 3·k·p², and zeros after them
 --   Stepped p n t c v xs ys   the array ys holds X·xs + c·v modulo T, and the bound on its words has grown by 3·p²
---   joined_words n i e o       the n words e[i + j] + o[i + j − 1] for j from 0 on
+--   joined_words n i e o      the n words e[i + j] + o[i + j − 1] for j from 0 on
 --   joined n i e o            the array that holds these words
 --   Added i c q v t k z z'    z' is z with c·v + q·t added to the k words from word i on
 --   Half p n k i z            the array z has words of at most 3·k·p² below word i + n, and zeros below word i

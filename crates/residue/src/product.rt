@@ -2,7 +2,7 @@
 // with an odd index bring in into o, one place lower than it counts: so rows are added at even places only, and no word is moved from step to step. The top word
 // of each step goes out as a multiple of T; all others are reduced once, at the end.
 ghost use Rattle.std.specs.Prelude.{◌≡◌, ◌∷◌, ◌+◌, ◌-◌, ◌*◌, ◌/◌, ◌%◌, ◌^◌, ◌≤◌, ◌<◌, length, get_or, set, take, drop, replicate};
-ghost use Rattle.quotient.specs.Residue.{times_x, product as productOf};
+ghost use Rattle.quotient.specs.Residue.{times_x, product as product_of};
 ghost use Rattle.array.specs.Array.{padded, Holds};
 ghost use Rattle.modular.specs.Barrett.{Reduces};
 ghost use Rattle.residue.specs.Delayed.{reduced, times_x_if, joined, Added, Half, Halves};
@@ -114,9 +114,9 @@ fn two_steps(
 ) -> u64
     requires reduces { Reduces d × (n ≤ 16) × (i + 2 ≤ n) }
     requires holds { Holds d.p n t.now × Holds d.p n u.now × Holds d.p n v.now }
-    requires halves { Halves d.p n (n - (i + 2)) (i + 2) (productOf d.p (take n t.now) (drop (i + 2) (take n u.now)) (take n v.now)) e.old o.old }
+    requires halves { Halves d.p n (n - (i + 2)) (i + 2) (product_of d.p (take n t.now) (drop (i + 2) (take n u.now)) (take n v.now)) e.old o.old }
     requires h_value { h ≡ get_or (joined n (i + 2) e.old o.old) (n - 1) 0 }
-    ensures halves_2 { Halves d.p n (n - i) i (productOf d.p (take n t.now) (drop i (take n u.now)) (take n v.now)) e.new o.new }
+    ensures halves_2 { Halves d.p n (n - i) i (product_of d.p (take n t.now) (drop i (take n u.now)) (take n v.now)) e.new o.new }
     ensures value { result ≡ get_or (joined n i e.new o.new) (n - 1) 0 }
 {
     let c = u[i];
@@ -142,7 +142,7 @@ fn start(
     requires le_p { (2 ≤ p) × (p ≤ 2 ^ 20) × (1 ≤ n) × (n ≤ 16) }
     requires holds { Holds p n t.now × Holds p n u.now × Holds p n v.now }
     requires e_value { (e.old ≡ replicate 32 0) × (o.old ≡ replicate 32 0) }
-    ensures halves { Halves p n (n - 2 * (n / 2)) (2 * (n / 2)) (productOf p (take n t.now) (drop (2 * (n / 2)) (take n u.now)) (take n v.now)) e.new o.new }
+    ensures halves { Halves p n (n - 2 * (n / 2)) (2 * (n / 2)) (product_of p (take n t.now) (drop (2 * (n / 2)) (take n u.now)) (take n v.now)) e.new o.new }
     ensures value { result ≡ get_or (joined n (2 * (n / 2)) e.new o.new) (n - 1) 0 }
 {
     if n % 2 == 0 {
@@ -166,7 +166,7 @@ fn accumulate(
     requires reduces { Reduces d × (1 ≤ n) × (n ≤ 16) }
     requires holds { Holds d.p n t.now × Holds d.p n u.now × Holds d.p n v.now }
     requires e_value { (e.old ≡ replicate 32 0) × (o.old ≡ replicate 32 0) }
-    ensures halves { Halves d.p n n 0 (productOf d.p (take n t.now) (take n u.now) (take n v.now)) e.new o.new }
+    ensures halves { Halves d.p n n 0 (product_of d.p (take n t.now) (take n u.now) (take n v.now)) e.new o.new }
     ensures value { result ≡ get_or (joined n 0 e.new o.new) (n - 1) 0 }
 {
     let mut h = start(d.p, n, t, u, v, e, o);
@@ -262,7 +262,7 @@ pub fn multiply_times_x(
     requires reduces { Reduces d × (1 ≤ n) × (n ≤ 16) }
     requires holds { Holds d.p n t.now × Holds d.p n u.now × Holds d.p n v.now }
     requires w_value { w.old ≡ replicate 16 0 }
-    ensures { w.new ≡ padded (times_x_if x d.p (take n t.now) (productOf d.p (take n t.now) (take n u.now) (take n v.now))) }
+    ensures { w.new ≡ padded (times_x_if x d.p (take n t.now) (product_of d.p (take n t.now) (take n u.now) (take n v.now))) }
 {
     let mut e = [0; 32];
     let mut o = [0; 32];

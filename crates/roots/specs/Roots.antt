@@ -2,11 +2,11 @@
 --   zeta p n                the smallest integer from 1 to p − 1 with ζ^n = 1 mod p and no ζ^m = 1 for 1 ≤ m < n
 --   radicand p n z          a, of which each αi is an n-th root: the smallest integer from 1 to p − 1 with a^((p − 1)/n) = z mod p
 -- What the contracts of this crate cite:
---   Admissible p n          p is a prime up to 2^20, and n from 1 to 16 divides p − 1
---   OrderModulo p n w       w has order n modulo p: w^n = 1 and no w^m for 1 ≤ m < n
---   Radicand p n z a        a is from 1 to p − 1, and a^((p − 1)/n) = z modulo p
+--   Admissible p n            p is a prime up to 2^20, and n from 1 to 16 divides p − 1
+--   OrderModulo p n w         w has order n modulo p: w^n = 1 and no w^m for 1 ≤ m < n
+--   Radicand p n z a          a is from 1 to p − 1, and a^((p − 1)/n) = z modulo p
 --   root_of_ratio p n a1 a2   the smallest n-th root of a1/a2: the smallest integer c from 1 to p − 1 with c^n·a2 = a1 mod p
---   Solvable p n a1 a2      a1 and a2 are from 1 to p − 1, and c^n·a2 = a1 modulo p has a solution, of which `root_of_ratio` finds the smallest
+--   Solvable p n a1 a2        a1 and a2 are from 1 to p − 1, and c^n·a2 = a1 modulo p has a solution, of which `root_of_ratio` finds the smallest
 use Rattle.std.specs.Prelude.{◌≡◌, ◌&&◌, not, ℕ, ◌-◌, ◌*◌, ◌/◌, ◌%◌, ◌^◌, ◌≤◌, ◌<◌, eqb}
 use Rattle.algebra.specs.Lists.{all, range, first}
 use Rattle.algebra.specs.Prime.{Prime}

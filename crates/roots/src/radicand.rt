@@ -1,6 +1,6 @@
 // The number a of which both eigenvectors become n-th roots: the smallest with a^((p − 1)/n) = ζ modulo a prime p, where n divides p − 1.
 ghost use Rattle.std.specs.Prelude.{true, ◌≡◌, ◌-◌, ◌/◌, ◌%◌, ◌^◌, ◌<◌};
-ghost use Rattle.roots.specs.Roots.{radicand as radicandOf, Admissible, OrderModulo, Radicand};
+ghost use Rattle.roots.specs.Roots.{radicand as radicand_of, Admissible, OrderModulo, Radicand};
 
 use character::table::next;
 use modular::barrett::Barrett;
@@ -19,7 +19,7 @@ pub fn is_radicand(p: u64, n: u64, z: u64, a: u64) -> bool
 pub fn radicand(p: u64, n: u64, z: u64) -> u64
     requires admissible { Admissible p n }
     requires z_lt_p { (z < p) × OrderModulo p n z }
-    ensures { (result ≡ radicandOf p n z) × Radicand p n z result }
+    ensures { (result ≡ radicand_of p n z) × Radicand p n z result }
 {
     let d = Barrett::new(p);
     let k = (p - 1) / n;

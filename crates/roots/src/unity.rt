@@ -1,6 +1,6 @@
 // Roots of unity modulo a prime p, where n divides p − 1: an element of order n, and ζ, the smallest of them.
 ghost use Rattle.std.specs.Prelude.{◌≡◌, ◌≤◌, ◌<◌};
-ghost use Rattle.roots.specs.Roots.{zeta as zetaOf, Admissible, OrderModulo};
+ghost use Rattle.roots.specs.Roots.{zeta as zeta_of, Admissible, OrderModulo};
 ghost use Rattle.algebra.specs.Search.{Decides};
 
 use modular::word::{mul, power};
@@ -41,7 +41,7 @@ fn element_of_order(p: u64, n: u64) -> u64
 // ζ, the smallest of the powers w, w², …, w^n of an element w of order n that have order n.
 pub fn zeta(p: u64, n: u64) -> u64
     requires { Admissible p n }
-    ensures { (result ≡ zetaOf p n) × (result < p) }
+    ensures { (result ≡ zeta_of p n) × (result < p) }
 {
     let w = element_of_order(p, n);
     let mut least = w;

@@ -6,4 +6,4 @@ use Rattle.work.specs.Work.{is_paired, is_open}
 use Rattle.work.specs.declared.Work.{Work}
 
 pub record OverPair (x : Work) : Type 0 where
-  pub is_paired_lem : is_open x.table ≡ true → is_paired (view x.held) ≡ true
+  pub has_pair : is_open x.table ≡ true → is_paired (view x.held) ≡ true

@@ -1,15 +1,15 @@
 -- A table in parts, and the next pair meanwhile (document 02, S-8): begin, feed and end, without the ledger.
 --   most_residues                 4,294,967,295
 --   begin_number x k              begin's number, where k records count: 21, 22, 27, 25
---   opened d x                   "Begin opens a table in one direction"; the waiting session "starts empty"
---   begin d x k                  begin's answer: its number, and what x becomes where that is 0
+--   opened d x                    "Begin opens a table in one direction"; the waiting session "starts empty"
+--   begin d x k                   begin's answer: its number, and what x becomes where that is 0
 --   part_number p n k table out   the number of a part where k residues have been fed: 9, 10, 4, and 9 where the part "would bring its table above
---                                4,294,967,295 residues"
+--                                 4,294,967,295 residues"
 --   feed_number x table out       feed's number: 26, 9, 10, 4
---   feed x table out             feed's answer: "feed converts a part under the rules for forward and back"; the residues fed so far grow
+--   feed x table out              feed's answer: "feed converts a part under the rules for forward and back"; the residues fed so far grow
 --   feed_output x table out       what the lent list then holds: the images in the table's direction, or what it held
 --   held_after v w h              of a waiting session w that counts as v: "End makes a paired waiting session the current one and drops one that is not paired"
---   end x                        end's answer: 26; the record of all residues of the table, and no table is open
+--   end x                         end's answer: 26; the record of all residues of the table, and no table is open
 use Rattle.std.specs.Prelude.{List, ℕ, ◌+◌, ◌/◌, ltb, length}
 use Rattle.refusal.specs.Refusal.{refuse, written}
 use Rattle.table.specs.Table.{table_number}

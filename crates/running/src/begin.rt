@@ -1,7 +1,7 @@
 // Begin: a table is opened in one direction, with an empty waiting session.
 ghost use Rattle.std.specs.Prelude.{true, ◌≡◌};
 ghost use Rattle.held.specs.Held.{valid_held};
-ghost use Rattle.running.specs.Running.{begin_number, opened as opened_of, begin as beginOf};
+ghost use Rattle.running.specs.Running.{begin_number, opened as opened_of, begin as begin_of};
 
 use held::Held;
 use ledger::{Direction, Record};
@@ -40,7 +40,7 @@ fn opened(direction: Direction, work: Work) -> Work
 // Opens a table: 21, 22, 27, 25; `count` records count.
 pub fn begin(direction: Direction, work: Work, count: u32) -> WorkStep
     requires { valid_held work.held ≡ true }
-    ensures { result ≡ beginOf direction work count }
+    ensures { result ≡ begin_of direction work count }
 {
     WorkStep {
         number: begin_number(work, count),

@@ -4,7 +4,7 @@ ghost use Rattle.held.specs.Held.{view};
 ghost use Rattle.work.specs.Work.{is_paired};
 ghost use Rattle.work.specs.declared.Table.TheVariants.{Open};
 ghost use Rattle.running.specs.OverPair.{OverPair};
-ghost use Rattle.running.specs.Running.{part_number, feed_as, feed_output_as, feed as feedOf, feed_output};
+ghost use Rattle.running.specs.Running.{part_number, feed_as, feed_output_as, feed as feed_of, feed_output};
 
 use array::Word;
 use conversion::images::images;
@@ -63,7 +63,7 @@ fn feed_open(work: Work, entry: Record, table: &[Word], out: &mut [Word]) -> Wor
 // Each group of n words of the part becomes its image: 26, 9, 10, 4.
 pub fn feed(work: Work, table: &[Word], out: &mut [Word]) -> WorkStep
     requires { OverPair work }
-    ensures value { result ≡ feedOf work table.now out.old }
+    ensures value { result ≡ feed_of work table.now out.old }
     ensures out_after { out.new ≡ feed_output work table.now out.old }
 {
     let opened = work.table;

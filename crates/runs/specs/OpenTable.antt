@@ -1,24 +1,24 @@
 -- What is proved of tables in parts (document 02, S-8), most of it for every list of session calls from a new session.
---   PartByPart           a feed that is not refused writes the images of the part under the map of the table's direction, whatever the session is
+--   PartByPart            a feed that is not refused writes the images of the part under the map of the table's direction, whatever the session is
 --   leaves_open c         c is neither end nor clear
 --   fed_by x c            the residues of the part that c converts, where it is a feed that succeeds
 --   fed_in x cs           that of a list of calls, together
---   KeepsPair x d cs     begin in the direction d, and then calls that are neither end nor clear: what is held is what x held, the table is open in its direction
---                        with the residues that were fed, and a feed that is not refused writes the images under the map of what x held
---   TableKeepsPair       "The open table keeps the pair it began with, for every list of these calls"
---   EndsTable x e        end closes a table with the record e, "and adds one ledger record"; it "makes a paired waiting session the current one and drops one that is
---                        not paired"
---   EndCloses            that of every session with an open table
---   ClearDrops           clear "drops both and the open table", whatever it is handed; OthersKeepLedger says that it adds no record
+--   KeepsPair x d cs      begin in the direction d, and then calls that are neither end nor clear: what is held is what x held, the table is open in its direction
+--                         with the residues that were fed, and a feed that is not refused writes the images under the map of what x held
+--   TableKeepsPair        "The open table keeps the pair it began with, for every list of these calls"
+--   EndsTable x e         end closes a table with the record e, "and adds one ledger record"; it "makes a paired waiting session the current one and drops one that is
+--                         not paired"
+--   EndCloses             that of every session with an open table
+--   ClearDrops            clear "drops both and the open table", whatever it is handed; OthersKeepLedger says that it adds no record
 --   ends_table c b        whether a table that is open before c is ended, where b says it of the calls after c
 --   ended_in cs           whether a table that is open before these calls is ended by one of them, and not dropped
 --   where_true b k        k where b is true, else 0
 --   in_table d t k        k where the table t is open in the direction d, else 0
 --   counted_by d x c b    the residues in the direction d that the call c counts for: those of a conversion that succeeds, and those of a feed that succeeds where b says
---                        that its table is ended
+--                         that its table is ended
 --   counted_in d x cs     that of a list of calls, together
---   TotalsCount          "its totals now count single conversions and the feeds of ended tables, not those of a dropped one", for every list of session calls from
---                        a new session, and the report ends in these totals
+--   TotalsCount           "its totals now count single conversions and the feeds of ended tables, not those of a dropped one", for every list of session calls from
+--                         a new session, and the report ends in these totals
 use Rattle.std.specs.Prelude.{◌≡◌, Bool, true, false, List, [], ◌∷◌, ◌++◌, ℕ, ◌+◌, ◌/◌, length}
 use Rattle.algebra.specs.Lists.{all}
 use Rattle.held.specs.Held.{view, new_held, Arrays}

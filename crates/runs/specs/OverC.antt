@@ -1,7 +1,7 @@
 -- Sessions over C follow those of the library: what is proved of every list of calls from a new session holds over C.
 --   next_value v c     the value after one call, as the call's contract says
 --   run_values v cs    the value after a list of calls
---   ValuesFollow      for every list of calls, the value that they make of a new one is taken for the session that they make of a new session
+--   ValuesFollow       for every list of calls, the value that they make of a new one is taken for the session that they make of a new session
 use Rattle.std.specs.Prelude.{◌≡◌, List, [], ◌∷◌}
 use Rattle.session.specs.Session.{new_session, load, propose, find, convert, begin, feed, end, report, clear}
 use Rattle.runs.specs.Theorem.{Call, call_load, call_propose, call_find, call_convert, call_begin, call_feed, call_end, call_report, call_clear, run}

@@ -8,9 +8,9 @@
 --   RefusalChangesNothing x     a refused call gives back x, and a lent list holds what it held; a report gives back x, refused or not
 --   RefusalsChangeNothing       that of every x
 --   Arrays h (of held)          the arrays of h have as many words as their type says
---   map_in d h                   the forward or the backward map of the first n words of the arrays of h
+--   map_in d h                  the forward or the backward map of the first n words of the arrays of h
 --   GroupByGroup                a conversion that is not refused writes the images of the table under the map of its direction
---   with_ledger x l              x with another ledger
+--   with_ledger x l             x with another ledger
 --   BackAgain                   in a session that calls have made, back after forward gives every table again, and forward after back; the second
 --                               conversion may meet any ledger that has room for its record
 --   ConversionAddsRecord        a conversion gives back the session it took with one record more, and nothing else changed

@@ -1,7 +1,7 @@
 // Residues as vectors: multiples, division by the first word that is not 0, and the test for constants.
 ghost use Rattle.std.specs.Prelude.{◌≡◌, ◌^◌, ◌≤◌, ◌<◌, get_or, take};
 ghost use Rattle.algebra.specs.Prime.{Prime};
-ghost use Rattle.modular.specs.Inverse.{inverse as inverseOf};
+ghost use Rattle.modular.specs.Inverse.{inverse as inverse_of};
 ghost use Rattle.quotient.specs.Residue.{scale as scale_of, constant};
 ghost use Rattle.array.specs.Array.{padded, Holds};
 ghost use Rattle.galois.specs.Eigenvector.{first_non_zero};
@@ -46,7 +46,7 @@ pub fn normalise(p: u64, n: usize, u: &[u64; 16]) -> [u64; 16]
     requires p_bound { (p ≤ 2 ^ 20) × (n ≤ 16) }
     requires holds { Holds p n u.now }
     requires fact { take n u.now ≡ constant n 0 → ⊥ }
-    ensures value { result ≡ padded (scale_of p (inverseOf p (first_non_zero (take n u.now))) (take n u.now)) }
+    ensures value { result ≡ padded (scale_of p (inverse_of p (first_non_zero (take n u.now))) (take n u.now)) }
     ensures holds_2 { Holds p n result }
 {
     scale(p, n, inverse(p, first_non_zero(p, n, u)), u)

@@ -83,7 +83,7 @@ module _ (x : Session) (w : Work) (f : w ≡ (counted x).work) where
   held_valid = rw f (counted_parts x).held_valid
 
   pub over_pair : OverPair w
-  over_pair = rw f (record { is_paired_lem = λ o. ((counted_parts x).open_over o).over_pair })
+  over_pair = rw f (record { has_pair = λ o. ((counted_parts x).open_over o).over_pair })
 
   pub feed_writes : (table out after : List ℕ) → after ≡ Running.feed_output w table out → after ≡ feed_output x table out
   feed_writes table out after h = h ∙ ap (λ u. Running.feed_output u table out) f

@@ -1,6 +1,6 @@
 // Load, propose and find act on what is held, or on the waiting session while a table is open.
 ghost use Rattle.std.specs.Prelude.{◌≡◌};
-ghost use Rattle.session.specs.Session.{placed as placed_of, load as load_of, propose as proposeOf, find as findOf};
+ghost use Rattle.session.specs.Session.{placed as placed_of, load as load_of, propose as propose_of, find as find_of};
 
 use crate::{Session, Step};
 use array::Word;
@@ -39,7 +39,7 @@ impl Session {
 
     // A pair that the checker accepts: 21, 24, 3, 4, 6, 7, 8.
     pub fn propose(self, s: &[Word], r: &[Word]) -> Step
-        ensures { result ≡ proposeOf self s.now r.now }
+        ensures { result ≡ propose_of self s.now r.now }
     {
         let work = self.work;
         let x = counted(work, self.ledger.count);
@@ -49,7 +49,7 @@ impl Session {
 
     // The finder's pair: 21, 24, 5, 6, 7.
     pub fn find(self) -> Step
-        ensures { result ≡ findOf self }
+        ensures { result ≡ find_of self }
     {
         let work = self.work;
         let x = counted(work, self.ledger.count);

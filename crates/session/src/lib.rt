@@ -11,7 +11,7 @@ mod report;
 mod tables;
 
 ghost use Rattle.std.specs.Prelude.{◌≡◌};
-ghost use Rattle.session.specs.Session.{new_session, valid_session, step_with, clear as clearOf};
+ghost use Rattle.session.specs.Session.{new_session, valid_session, step_with, clear as clear_of};
 
 use ledger::Ledger;
 use work::counted::counted;
@@ -87,7 +87,7 @@ impl Session {
 
     // Empty, and no table is open; with the records. It never refuses.
     pub fn clear(self) -> Step
-        ensures { result ≡ clearOf self }
+        ensures { result ≡ clear_of self }
     {
         let work = self.work;
         let x = counted(work, self.ledger.count);

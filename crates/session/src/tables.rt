@@ -2,7 +2,7 @@
 ghost use Rattle.std.specs.Prelude.{◌≡◌};
 ghost use Rattle.ledger.specs.declared.Direction.TheVariants.{Forward, Back};
 ghost use Rattle.session.specs.Room.{Room};
-ghost use Rattle.session.specs.Session.{record_with, convert as convert_of, convert_output, begin as beginOf, feed as feedOf, feed_output, end as end_of};
+ghost use Rattle.session.specs.Session.{record_with, convert as convert_of, convert_output, begin as begin_of, feed as feed_of, feed_output, end as end_of};
 
 use crate::{Session, Step};
 use array::Word;
@@ -63,7 +63,7 @@ impl Session {
 
     // Opens a table in one direction: 21, 22, 27, 25.
     pub fn begin(self, direction: Direction) -> Step
-        ensures { result ≡ beginOf direction self }
+        ensures { result ≡ begin_of direction self }
     {
         let work = self.work;
         let x = counted(work, self.ledger.count);
@@ -73,7 +73,7 @@ impl Session {
 
     // Converts a part of the open table, by the pair with which it began: 26, 9, 10, 4.
     pub fn feed(self, table: &[Word], out: &mut [Word]) -> Step
-        ensures value { result ≡ feedOf self table.now out.old }
+        ensures value { result ≡ feed_of self table.now out.old }
         ensures out_after { out.new ≡ feed_output self table.now out.old }
     {
         let work = self.work;

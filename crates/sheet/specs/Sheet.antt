@@ -1,10 +1,10 @@
 -- The printed sheet (document 02, S-1), as ASCII codes. Numbers and columns are those of the crate text.
---   centred p v               "A word v prints as v if v is at most p/2 rounded down, else as v − p."
---   columns w p u             the coefficients, "constant first", each "right-justified in" w "columns"
---   line p name u             "Names stand at the left"; the coefficients in 7 columns each; "every line is filled with blanks to 59 columns and
---                             ends with a newline"
---   lines p k name u          k lines, the coefficients "eight to a line": the first with the name, "Continued lines begin with 3 blanks"
---   polynomial p n name u     one of the four lists, "starting a line with its name in 3 columns": n coefficients take n/8 lines, rounded up
+--   centred p v                "A word v prints as v if v is at most p/2 rounded down, else as v − p."
+--   columns w p u              the coefficients, "constant first", each "right-justified in" w "columns"
+--   line p name u              "Names stand at the left"; the coefficients in 7 columns each; "every line is filled with blanks to 59 columns and
+--                              ends with a newline"
+--   lines p k name u           k lines, the coefficients "eight to a line": the first with the name, "Continued lines begin with 3 blanks"
+--   polynomial p n name u      one of the four lists, "starting a line with its name in 3 columns": n coefficients take n/8 lines, rounded up
 --   sheet_text p n t1 t2 s r   "Print T1, T2, S and R"
 --   sheet_length n             "the sheet's exact length": four times n/8 lines, rounded up, of 60 bytes
 --   sheet_number p n t1 t2 s r out   "the checker's numbers, and 3 where the output list is not of the sheet's exact length"

@@ -2,7 +2,7 @@
 ghost use Rattle.std.specs.Prelude.{◌≡◌, ◌+◌, ◌*◌, ◌^◌, ◌≤◌, ◌<◌, length};
 ghost use Rattle.array.specs.Words.{Words};
 ghost use Rattle.text.specs.Text.{Appended};
-ghost use Rattle.sheet.specs.Sheet.{centred as centredOf, columns};
+ghost use Rattle.sheet.specs.Sheet.{centred as centred_of, columns};
 
 use array::Word;
 use text::columns::put_right;
@@ -10,7 +10,7 @@ use text::columns::put_right;
 // The word v, less p where it is above half of p.
 pub fn centred(p: u32, v: u32) -> i32
     requires { (v < p) × (p ≤ 2 ^ 20) }
-    ensures { result ≡ centredOf p v }
+    ensures { result ≡ centred_of p v }
 {
     if v <= p / 2 {
         return v as i32;

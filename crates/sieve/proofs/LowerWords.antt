@@ -1,5 +1,5 @@
--- The lower words of the multiples of D, as the sieve works them out: in the residues modulo D they are X^k·D + H-as-D, and one word more at the end of H adds its multiple of
--- X^k·D to H-as-D.
+-- The lower words of the multiples of D, as the sieve works them out: in the residues modulo D they are X^k·D + H·D, and one word more at the end of H adds its multiple of
+-- X^k·D to H·D.
 use mathlib.Core.Path.{◌≡◌, refl, sym, ap, ap₂, ◌∙◌}
 use mathlib.Core.List.{List, [], ◌∷◌, ◌++◌}
 use Prim.Native.Nat.{ℕ, zero, suc, ◌/◌, ◌%◌, ◌^◌, ◌≤◌, ◌<◌}

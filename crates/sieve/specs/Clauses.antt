@@ -2,7 +2,7 @@
 --   WordsBelow p k xs            the array xs has 32,768 words, and the first k are below p
 --   Block p size to v xs ys      ys has the words of xs before word `to`, and then a block of `size` words: the first words of xs, each plus v modulo p
 --   Extended p blocks size c xs ys   ys has the first words of xs in each of so many blocks, plus a·c modulo p in block a
---   Plane p d k j xs             word x of xs is word j of H-as-L modulo D, L the polynomial of D's lower words, for every H of k words, given by the number x
+--   Plane p d k j xs             word x of xs is word j of H·L modulo D, L the polynomial of D's lower words, for every H of k words, given by the number x
 --   Collected p count s xs old new   word h of new is p times that of old, plus that of xs plus s modulo p
 --   Lows p d k j codes           number h of codes has the digits from digit j on of the lower words of the multiple of D with the higher words h
 --   struck b old                 1 where the multiple is struck out, else what was there

@@ -1,4 +1,4 @@
-// Word j of H.D modulo D, where D stands for its lower words, for all lists H of k words at once: that for the list with the number x in base p is word x of an array. With each
+// Word j of H·D modulo D, where D stands for its lower words, for all lists H of k words at once: that for the list with the number x in base p is word x of an array. With each
 // further word of H there are p times as many, in p blocks: block a has the words so far, each plus a times word j of X^k·D.
 ghost use Rattle.std.specs.Prelude.{◌⊎◌, ◌≡◌, ◌+◌, ◌*◌, ◌%◌, ◌^◌, ◌≤◌, ◌<◌, length, get_or, take};
 ghost use Rattle.array.specs.Array.{Holds};
@@ -74,7 +74,7 @@ fn word(p: u64, n: usize, j: usize, w: &[u64; 16]) -> u16
     narrow(w[j])
 }
 
-// Word j of H.D modulo D for all H of k words. Handed back is word j of X^k·D.
+// Word j of H·D modulo D for all H of k words. Handed back is word j of X^k·D.
 pub fn plane(d: Barrett, n: usize, k: usize, t: &[u64; 16], j: usize, xs: &mut [u16; 32768]) -> u16
     requires reduces { Reduces d × (d.p ≤ 256) × (1 ≤ n) × (n ≤ 16) × (j < n) × (d.p ^ k ≤ 32768) }
     requires holds { Holds d.p n t.now × (length xs.old ≡ 32768) }

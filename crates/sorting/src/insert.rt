@@ -3,7 +3,7 @@ ghost use mathlib.Core.List.{flatten};
 ghost use Rattle.std.specs.Prelude.{◌≡◌, suc, ◌*◌, ◌≤◌, ◌<◌, length, take};
 ghost use Rattle.array.specs.Array.{Holds};
 ghost use Rattle.array.specs.Words.{Words, word_bound};
-ghost use Rattle.sorting.specs.Sorting.{rows, insert as insertInto};
+ghost use Rattle.sorting.specs.Sorting.{rows, insert as insert_into};
 
 use crate::order::exchange;
 use array::Word;
@@ -13,7 +13,7 @@ use array::copy::store;
 pub fn insert(n: usize, k: usize, u: &[u64; 16], out: &mut [Word])
     requires k_lt_n { (k < n) × (n ≤ 16) × (length out.old ≡ n * n) }
     requires holds { Holds word_bound n u.now × Words word_bound (k * n) (take (k * n) out.old) }
-    ensures { take (suc k * n) out.new ≡ flatten (insertInto (take n u.now) (rows n k out.old)) }
+    ensures { take (suc k * n) out.new ≡ flatten (insert_into (take n u.now) (rows n k out.old)) }
 {
     let mut carried = *u;
     let mut j = 0;

@@ -1,7 +1,7 @@
 // Residues in ascending order: coefficients compared from the highest power down.
 ghost use Rattle.std.specs.Prelude.{◌≡◌, ◌≤◌, length, take};
 ghost use Rattle.array.specs.Array.{padded, Holds};
-ghost use Rattle.array.specs.Ascending.{lower as lowerOf};
+ghost use Rattle.array.specs.Ascending.{lower as lower_of};
 ghost use Rattle.array.specs.Words.{word_bound};
 ghost use Rattle.sorting.specs.Sorting.{earlier, later};
 
@@ -11,7 +11,7 @@ use array::copy::{load, store};
 // Whether u comes before v: at the highest power where they differ, u has the smaller coefficient.
 pub fn lower(n: usize, u: &[u64; 16], v: &[u64; 16]) -> bool
     requires { (n ≤ 16) × (length u.now ≡ 16) × (length v.now ≡ 16) }
-    ensures { result ≡ lowerOf (take n u.now) (take n v.now) }
+    ensures { result ≡ lower_of (take n u.now) (take n v.now) }
 {
     let mut i = 0;
     while i < n {

@@ -1,7 +1,7 @@
 -- Tables go group by group: where f makes n words below p of n words below p, the k-th image starts at the k-th multiple of n.
 --   Maps p n f         f takes n words below p to n words below p
 --   groups_words       then the images of groups of such words are such words
---   group-by-group     and the j-th group of the images is the image of the j-th group
+--   group_by_group     and the j-th group of the images is the image of the j-th group
 --   groups_same        two maps that agree on such words have the same images
 --   groups_undone      a map that undoes f gives the groups back
 --   images, converted_images   what that says of a table to which 9, 10 and 4 do not apply

@@ -1,8 +1,8 @@
 -- Columns of text, as ASCII codes: 32 is the blank, 45 the minus.
---   blanks k             k blanks
+--   blanks k              k blanks
 --   signed_decimal z      the decimal digits of z, behind a minus where z is negative
 --   right_justified w x   the text x at the right of w columns
---   filled w x           the text x, filled with blanks to w columns
+--   filled w x            the text x, filled with blanks to w columns
 use Rattle.std.specs.Prelude.{List, ◌∷◌, ◌++◌, ℕ, suc, ◌-◌, ℤ, pos, negsuc, length, replicate}
 use Rattle.text.specs.Digits.{decimal}
 

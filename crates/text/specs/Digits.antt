@@ -1,8 +1,8 @@
 -- Digits as ASCII codes.
 --   hexadecimal_digit d   the upper-case hexadecimal digit of d, which is below 16
---   hexadecimal ys       the bytes in hexadecimal, two digits each
+--   hexadecimal ys        the bytes in hexadecimal, two digits each
 --   last_digits f k       the decimal digits of k, of which at most the last f
---   decimal k            the decimal digits of k, which are at most k + 1
+--   decimal k             the decimal digits of k, which are at most k + 1
 use Rattle.std.specs.Prelude.{true, false, List, [], ◌∷◌, ◌++◌, ℕ, zero, suc, ◌+◌, ◌/◌, ◌%◌, ltb}
 
 unfoldable pub hexadecimal_digit : ℕ → ℕ

@@ -1,5 +1,5 @@
 -- The equation v^p = v + a modulo T as a linear system.
---   without_constant u       u with 0 in place of its constant coefficient
+--   without_constant u      u with 0 in place of its constant coefficient
 --   Differences p n t c     c is the matrix of u ↦ u^p − u on the residues modulo T, made from that of u ↦ u^p
 --   Solved p n t a found v  found: the array v holds the solution with constant coefficient 0; else, where there is such a solution, T has a monic divisor of degree 1 to n − 1
 use Rattle.std.specs.Prelude.{◌≡◌, Bool, true, false, List, [], ◌∷◌, ℕ, take}

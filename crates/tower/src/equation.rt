@@ -3,7 +3,7 @@
 ghost use Rattle.std.specs.Prelude.{◌≡◌, ◌-◌, ◌^◌, ◌≤◌, ◌<◌, length, get_or, take};
 ghost use Rattle.algebra.specs.Prime.{Prime};
 ghost use Rattle.array.specs.Array.{padded, Holds};
-ghost use Rattle.modular.specs.Inverse.{inverse as inverseOf};
+ghost use Rattle.modular.specs.Inverse.{inverse as inverse_of};
 ghost use Rattle.quotient.specs.Residue.{scale as scale_of};
 ghost use Rattle.tower.specs.Equation.{without_constant, Differences, Solved};
 
@@ -38,7 +38,7 @@ fn divided(p: u64, n: usize, u: &[u64; 16]) -> [u64; 16]
     requires prime { Prime p }
     requires p_bound { (p ≤ 2 ^ 20) × (1 ≤ n) × (n ≤ 16) }
     requires holds { Holds p n u.now × (0 < get_or u.now 0 0) }
-    ensures { result ≡ padded (scale_of p (inverseOf p (p - get_or u.now 0 0)) (without_constant (take n u.now))) }
+    ensures { result ≡ padded (scale_of p (inverse_of p (p - get_or u.now 0 0)) (without_constant (take n u.now))) }
 {
     let mut w = *u;
     w[0] = 0;

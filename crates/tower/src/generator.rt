@@ -3,7 +3,7 @@
 ghost use Rattle.std.specs.Prelude.{◌≡◌, ◌^◌, ◌≤◌, take};
 ghost use Rattle.algebra.specs.Prime.{Prime};
 ghost use Rattle.array.specs.Array.{padded, Holds};
-ghost use Rattle.galois.specs.Tower.{raised as raisedOf};
+ghost use Rattle.galois.specs.Tower.{raised as raised_of};
 ghost use Rattle.tower.specs.Equation.{Differences};
 ghost use Rattle.tower.specs.Generator.{Reached, GeneratorFound};
 
@@ -14,7 +14,7 @@ use residue::ring::{power, product};
 fn raised(p: u64, n: usize, t: &[u64; 16], a: &[u64; 16], alpha: &[u64; 16]) -> [u64; 16]
     requires le_p { (2 ≤ p) × (p ≤ 2 ^ 20) × (1 ≤ n) × (n ≤ 16) }
     requires holds { Holds p n t.now × Holds p n a.now × Holds p n alpha.now }
-    ensures value { result ≡ padded (raisedOf p (take n t.now) (take n a.now) (take n alpha.now)) }
+    ensures value { result ≡ padded (raised_of p (take n t.now) (take n a.now) (take n alpha.now)) }
     ensures holds_2 { Holds p n result }
 {
     product(p, n, t, a, &power(p, n, t, alpha, p - 1))

@@ -2,11 +2,11 @@
 --   new_work               "A new session starts empty", and no table is open
 --   is_paired v            whether a value counts as paired
 --   is_open t              whether a table is open
---   may_be_open h k w       a table is open over h and k records, with w waiting: "with a table open over no pair or over a ledger of 512 records" a value
---                         counts as a new one, and so it does where 1, 2 or 4 refuses an item of w
+--   may_be_open h k w      a table is open over h and k records, with w waiting: "with a table open over no pair or over a ledger of 512 records" a value
+--                          counts as a new one, and so it does where 1, 2 or 4 refuses an item of w
 --   valid_work x k         k records are not past their limit, 1, 2 and 4 refuse no item of what is held, and a table that is open may be so
---   looked x              x with nothing waiting where no table is open: then the waiting session is not looked at
---   addressed x           what load, propose and find act on: "While a table is open, load, propose and find act on a waiting session"
+--   looked x               x with nothing waiting where no table is open: then the waiting session is not looked at
+--   addressed x            what load, propose and find act on: "While a table is open, load, propose and find act on a waiting session"
 --   with_addressed x h     x with h in its place
 use Rattle.std.specs.Prelude.{Bool, true, false, ◌&&◌, not, ℕ, leb, eqb}
 use Rattle.held.specs.Held.{View, empty, loaded, paired, view, valid_held, new_held}

@@ -1,13 +1,13 @@
 // The session that load, propose and find act on: the waiting one while a table is open.
 ghost use Rattle.std.specs.Prelude.{◌≡◌};
-ghost use Rattle.work.specs.Work.{addressed as addressedOf, with_addressed};
+ghost use Rattle.work.specs.Work.{addressed as addressed_of, with_addressed};
 
 use crate::{Table, Work};
 use held::Held;
 
 // That session.
 pub fn addressed(work: Work) -> Held
-    ensures { result ≡ addressedOf work }
+    ensures { result ≡ addressed_of work }
 {
     let table = work.table;
     match table {

@@ -1,7 +1,7 @@
 // What a value counts as, where k records count: one made otherwise counts as a new one.
 ghost use Rattle.std.specs.Prelude.{true, ◌≡◌};
 ghost use Rattle.held.specs.Held.{view, valid_held};
-ghost use Rattle.work.specs.Work.{is_paired, is_open, may_be_open, valid_work, looked as lookedOf};
+ghost use Rattle.work.specs.Work.{is_paired, is_open, may_be_open, valid_work, looked as looked_of};
 ghost use Rattle.work.specs.Counted.{counted_as};
 
 use crate::{Table, Work};
@@ -75,7 +75,7 @@ fn is_valid(work: Work, count: u32) -> bool
 
 // The value without a waiting session where no table is open.
 fn looked(work: Work) -> Work
-    ensures { result ≡ lookedOf work }
+    ensures { result ≡ looked_of work }
 {
     let table = work.table;
     let held = work.held;

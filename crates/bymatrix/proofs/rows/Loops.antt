@@ -1,6 +1,6 @@
 -- The loops through a matrix, one that writes it into a list and one that writes it into an array.
 --   square_word n m k     the word of the array m that comes to place k of the list
---   Storing, Loading     the first k words of the list are stored, or loaded
+--   Storing, Loading      the first k words of the list are stored, or loaded
 use mathlib.Core.Path.{◌≡◌, refl, sym, ap, ap₂, ◌∙◌}
 use mathlib.Core.List.{List}
 use Prim.Native.Nat.{ℕ, ◌+◌, ◌*◌, ◌/◌, ◌%◌, ◌≤◌, ◌<◌}

@@ -1,7 +1,7 @@
 -- The session of a value and what it counts as, by the tests of the code.
 --   state_past, table_unmade, records_past, directions_decide   whether a value is made
 --   counts_unmade, counts_made                                  what a value counts as
---   new_session_lem, records_few, session_made                      the session of a value
+--   new_session_lem, records_few, session_made                  the session of a value
 use mathlib.Core.Path.{◌≡◌, sym, ap, ◌∙◌}
 use mathlib.Core.Bool.{Bool, true, false, not}
 use mathlib.Core.List.{List, map}

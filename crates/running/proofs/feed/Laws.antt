@@ -87,7 +87,7 @@ module _ (x : Work) (table out : List ℕ) where
 
   module _ (e : Record) (f : x.table ≡ Open e) where
     pub over_pair : OverPair x → is_paired (view x.held) ≡ true
-    over_pair o = o.is_paired_lem (ap is_open f)
+    over_pair o = o.has_pair (ap is_open f)
 
     pub feed_open : (y : WorkStep) → y ≡ feed_as (Open e) x table out → y ≡ feed x table out
     unfolding feed

@@ -1,7 +1,7 @@
 -- The loops of `vector`: the words of c·u one after another, the search for the first word that is not 0, and the test for constants.
 --   scaled_word p c u k   word k of c·u
---   ZerosBefore n u i    no word of u before word i is different from 0
---   Constant n u i       no word of u from word 1 to word i − 1 is different from 0
+--   ZerosBefore n u i     no word of u before word i is different from 0
+--   Constant n u i        no word of u from word 1 to word i − 1 is different from 0
 use mathlib.Core.Path.{◌≡◌, refl, sym, ap, ◌∙◌}
 use mathlib.Core.Bool.{true, false, false≢true, true≢false}
 use mathlib.Core.List.{List, [], ◌∷◌}

@@ -27,7 +27,7 @@ word_small p n j w small place h = omega (arith, holds_word h j place)
 pub word_below : (p n j r : ℕ) (w : List ℕ) → j < n → Holds p n w → r ≡ get_or w j 0 → r < p
 word_below p n j r w place h e = subst (λ a. a < p) (sym e) (holds_word h j place)
 
--- word j of H-as-D with one word more
+-- word j of H·D with one word more
 times_word : {p m : ℕ} {d : List ℕ} → 2 ≤ p → Words p (suc m) d → (k x j : ℕ) → x < p ^ suc k → j < suc m
     → get_or (times p d (suc k) x) j 0 ≡ (get_or (times p d k (x % p ^ k)) j 0 + x / p ^ k * get_or (multiple p d d k) j 0) % p
 times_word {p} {m} {d} big wd k x j l place =

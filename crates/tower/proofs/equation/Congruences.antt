@@ -1,4 +1,4 @@
--- One row of the system: for X below p, X + (p − 1)·Y + A-as-U = 0 modulo p says X = Y + (p − U)·A.
+-- One row of the system: for X below p, X + (p − 1)·Y + A·U = 0 modulo p says X = Y + (p − U)·A.
 use mathlib.Core.Path.{◌≡◌, sym, ap, ◌∙◌}
 use Prim.Native.Nat.{ℕ, ◌+◌, ◌-◌, ◌*◌, ◌%◌, ◌≤◌, ◌<◌}
 use native.Mathlib.Nat.{add-mod-mod, add-mul-mod_self_left, mod-add-mod, mod-eq_of_lt, mul-mod_right, zero-add}
