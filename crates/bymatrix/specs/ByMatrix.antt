@@ -4,9 +4,9 @@
 --   square n f               the matrix of the words f i j: word k of the list stands in row k / n and column k % n
 --   matrix_of p n t s        the matrix of u ↦ u(S) modulo T: in row i and column j it has coefficient i of S^j
 --   matrices_number p n t1 t2 s r forward back   the building call's answer ("takes the checker's input and gives its numbers, with 3 when either of its two
---                           output lists, row after row, is not of n·n words"): 1, 2, 3, 4, 6, 7, 8 or 0
---   forward_output p n t1 t2 s r forward back    what the list lent for the forward map's matrix holds after the call
---   back_output p n t1 t2 s r forward back       what the list lent for the backward map's matrix holds after it
+--                            output lists, row after row, is not of n·n words"): 1, 2, 3, 4, 6, 7, 8 or 0
+--   forward_output p n t1 t2 s r forward back   what the list lent for the forward map's matrix holds after the call
+--   back_output p n t1 t2 s r forward back      what the list lent for the backward map's matrix holds after it
 --   matrix_times p n m u     the matrix times u, modulo p: word i is the sum of the products of row i's words with those of u
 --   by_matrix p n m table    the matrix times each group of n words, one after the other
 --   by_matrix_number p n m table out   the converting call's answer ("with 1, 2, 3, 9, 10, 4 in that order")

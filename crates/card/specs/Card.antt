@@ -11,10 +11,10 @@
 --   card_length p n kind         its bytes
 --   write_number, write_output   the writer's answer: 1, 2, 12, 3, 4
 --   is_wide ys                   a byte string starts with 16 zero bits, as wide cards do
---   card_prime, card_degree, card_kind, card_words what a byte string says, read as a card
---   bad_header ys               11: "card under 3  bytes", or "A card under 6 bytes that begins with two zero bytes"
---   bad_layout ys               28: "a wide card with a p below 65,536"
---   fill_bits ys                the zero bits after kind, and the bits behind the coefficients
+--   card_prime, card_degree, card_kind, card_words   what a byte string says, read as a card
+--   bad_header ys                11: "card under 3 bytes", or "A card under 6 bytes that begins with two zero bytes"
+--   bad_layout ys                28: "a wide card with a p below 65,536"
+--   fill_bits ys                 the zero bits after kind, and the bits behind the coefficients
 --   read_number, read_prime, read_degree, read_kind, read_output   the reader's answer: 3, 11, 1, 28, 12, 11, 13, 4; refused, every other field is 0
 use Rattle.std.specs.Prelude.{Bool, true, false, ◌||◌, ◌&&◌, not, List, [], ◌∷◌, ◌++◌, ℕ, zero, suc, ◌+◌, ◌-◌, ◌*◌, ◌/◌, ◌^◌, ltb, eqb, length, take, drop, replicate}
 use Rattle.algebra.specs.Lists.{all, range, first}

@@ -3,7 +3,7 @@
 --   modulus_in d h, image_in d h  forward T2 and S, back T1 and R
 --   images_in d h table           the images of a table's groups under u ↦ u(S) modulo T2, or u ↦ u(R) modulo T1
 --   convert_number x k table out   the number of a conversion, where k records count: 21, 22, 27, 9, 10, 4, 25
---   convert d x k table out     its answer: the number, and the record to be added, of as many residues as the table has
+--   convert d x k table out       its answer: the number, and the record to be added, of as many residues as the table has
 --   convert_output d x k table out   what the lent list then holds: the images, or what it held
 use Rattle.std.specs.Prelude.{List, ℕ, zero, suc, ◌/◌, length}
 use Rattle.refusal.specs.Refusal.{written}

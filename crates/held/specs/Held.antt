@@ -1,10 +1,10 @@
 -- What a session holds (document 01, "The session"): "a value: empty, loaded (p, n, T1, T2) or paired (also S, R)".
 --   View                        what a value counts as
 --   valid p n xss               1, 2 and 4 refuse neither p nor n nor a word of the lists
---   t1_of x, t2_of x, s_of x, r_of x    the first n words of the arrays of x
---   valid_held x                 1, 2 and 4 refuse no item that the state of x has
---   view x                       what x counts as: a value with a p, n or coefficient that 1, 2 or 4 refuses counts as a new one, which is empty
---   new_held, loaded_held, paired_held    the values that the calls make, with zeros where a list ends or is not held
+--   t1_of x, t2_of x, s_of x, r_of x   the first n words of the arrays of x
+--   valid_held x                1, 2 and 4 refuse no item that the state of x has
+--   view x                      what x counts as: a value with a p, n or coefficient that 1, 2 or 4 refuses counts as a new one, which is empty
+--   new_held, loaded_held, paired_held   the values that the calls make, with zeros where a list ends or is not held
 --   Arrays x                    the arrays of x have as many words as their type says
 use Rattle.std.specs.Prelude.{◌≡◌, Bool, true, false, ◌&&◌, not, List, [], ◌∷◌, ℕ, length, take, replicate}
 use Rattle.refusal.specs.Refusal.{bad_prime, bad_degree, bad_word, largest_degree}

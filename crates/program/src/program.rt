@@ -7,7 +7,7 @@ use crate::print::answer;
 use std::io;
 use std::io::{ErrorKind, Read, Write};
 
-// Reads until the card is full or the input ends: how many bytes were read. Where a read fails, some were read before.
+// Reads until the card is full or the input ends: how many bytes were read. Where a read fails, the bytes read before it are lost.
 fn read_card<R: Read>(reader: &mut R, card: &mut [u8; 167]) -> io::Result<usize>
     ensures within { IfOk result (λ n. n ≤ 167) }
     ensures bytes { IfOk result (λ n. Consumes (R.remaining reader.old) (R.remaining reader.new) (take n card.new)) }
@@ -43,8 +43,8 @@ fn write_text<W: Write>(writer: &mut W, text: &[u8]) -> io::Result<()>
 }
 
 // Reads a card and writes the answer. The buffer holds one byte more than the longest card: an input that fills it is too long, whatever follows. Where
-// the reader's bytes are known, the answer is that to all of them, and the bytes of the card are those that it lost. Where a read or a write fails, some
-// bytes were read, and a first part of the answer to them was written.
+// the reader's bytes are known, the answer is that to all of them, and the bytes of the card are those that it lost. Where a read or a write fails, the
+// bytes read before are lost, and a first part of the answer to them was written, or none.
 pub fn run<R: Read, W: Write>(reader: &mut R, writer: &mut W) -> io::Result<()>
     ensures answered { OnOk result (IfSome (R.remaining reader.old)
         (λ bytes. Appends (W.contents writer.old) (W.contents writer.new) (answer_text bytes))) }

@@ -1,11 +1,11 @@
 -- The refusals that calls share (document 01, "Caused by what was sent"). "The first that applies is returned."
---   refuse k b rest       k where the condition b applies, else what comes after it; the last is 0, a call that succeeds
---   bad_prime p           1: p is below 2, above 1,048,575 or not prime
---   largest_degree        16
---   is_degree n           n is 1 to 16
---   bad_degree n          2: n is not 1 to 16
---   bad_length n xss      3: a list of coefficients, read or written, has the wrong length
---   bad_word p xss        4: a coefficient is p or more
+--   refuse k b rest      k where the condition b applies, else what comes after it; the last is 0, a call that succeeds
+--   bad_prime p          1: p is below 2, above 1,048,575 or not prime
+--   largest_degree       16
+--   is_degree n          n is 1 to 16
+--   bad_degree n         2: n is not 1 to 16
+--   bad_length n xss     3: a list of coefficients, read or written, has the wrong length
+--   bad_word p xss       4: a coefficient is p or more
 --   refuse_sent p n xss yss rest        1 to 4 in their order, for a call with the lists xss, of which yss are read; then what comes after
 --   refuse_sent_or b p n xss yss rest   the same where 3 also covers b: a list that is not to have n words has the wrong length
 --   written k new old    what a lent list holds after a call with the number k: new where k is 0, else what it held

@@ -1,18 +1,18 @@
 -- The session (document 01, "The session"; document 02, S-2 and S-8): a value around what is held, the open table, the waiting session and the ledger.
 -- "The calls take a session and give the next one."
---   new_session                 "A new session starts empty"; "only a new session begins without records"
---   counted x                   what x counts as: a value made otherwise "counts as a new one"
---   with_work x w               x with w for all but the ledger
---   answer k next taken         number k: the next session where k is 0, else the session taken
---   step_with x y               the answer of a call that changes all but the ledger
---   placed w y                  the answer y of the session that a call acts on, the waiting one while a table is open, in its place in w
---   holding x y                 the answer of a call that acts on that session
---   load x p n t1 t2            load: empty to loaded; 23, 1 to 4
---   propose x s r               propose S, R: loaded to paired if the checker accepts; 21, 24, 3, 4, 6, 7, 8
---   find x                      find: loaded to paired with the finder's pair; 21, 24, 5, 6, 7
---   recorded x w e              x with w for all but the ledger, and one record more
---   record_with x y             the answer of a call that adds a record
---   convert d x table out       forward and back: "Every conversion that succeeds adds one record, also an empty one"; 21, 22, 27, 9, 10, 4, 25
+--   new_session                  "A new session starts empty"; "only a new session begins without records"
+--   counted x                    what x counts as: a value made otherwise "counts as a new one"
+--   with_work x w                x with w for all but the ledger
+--   answer k next taken          number k: the next session where k is 0, else the session taken
+--   step_with x y                the answer of a call that changes all but the ledger
+--   placed w y                   the answer y of the session that a call acts on, the waiting one while a table is open, in its place in w
+--   holding x y                  the answer of a call that acts on that session
+--   load x p n t1 t2             load: empty to loaded; 23, 1 to 4
+--   propose x s r                propose S, R: loaded to paired if the checker accepts; 21, 24, 3, 4, 6, 7, 8
+--   find x                       find: loaded to paired with the finder's pair; 21, 24, 5, 6, 7
+--   recorded x w e               x with w for all but the ledger, and one record more
+--   record_with x y              the answer of a call that adds a record
+--   convert d x table out        forward and back: "Every conversion that succeeds adds one record, also an empty one"; 21, 22, 27, 9, 10, 4, 25
 --   convert_output d x table out   what the list lent to it then holds: by S modulo T2, or by R modulo T1
 --   begin d x                    begin: "opens a table in one direction"; 21, 22, 27, 25
 --   feed x table out             feed: "converts a part"; 26, 9, 10, 4

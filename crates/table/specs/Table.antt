@@ -1,7 +1,7 @@
 -- Tables of residues (document 01, "The session"): "The k-th group of n words in the output is the image of the k-th group of the input."
---   most_words                  the most words that one conversion takes
---   each_group n f k table      f of each of the first k groups of n words, one after the other
---   converted p n t s table     the images of a table's groups under u ↦ u(S) modulo T
+--   most_words                   the most words that one conversion takes
+--   each_group n f k table       f of each of the first k groups of n words, one after the other
+--   converted p n t s table      the images of a table's groups under u ↦ u(S) modulo T
 --   refuse_table n table out rest   9 and 10, by the lengths of a table and of the list lent for its image; then what comes after
 --   table_number p n table out   the refusals by a table and the list lent for its image: 9, 10, 4
 --   Images n f table image       image has the table's length, and its k-th group of n words is f of the table's k-th group, for every k
