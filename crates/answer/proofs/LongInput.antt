@@ -15,7 +15,7 @@ use Rattle.algebra.specs.Lists.{all}
 use Rattle.refusal.specs.Refusal.{refuse, bad_prime, bad_length}
 use Rattle.card.specs.Bits.{bits, number, unpacked}
 use Rattle.card.specs.Card.{header_bits, layout_at, bad_kind, card_length, is_wide, card_prime, card_degree, card_kind, bad_header, bad_layout, field_at, read_number}
-use Rattle.refusal.proofs.Refusal.{prime_bounds}
+use Rattle.refusal.proofs.Order.{prime_bounds}
 use Rattle.card.proofs.Packed.{unpacked-length}
 use Rattle.card.proofs.Theorem.{length_most}
 use Rattle.answer.specs.Answer.{refused_text, answer_text}

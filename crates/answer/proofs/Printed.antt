@@ -4,7 +4,7 @@ use mathlib.Core.Bool.{Bool, true, false}
 use mathlib.Core.List.{List, [], ◌∷◌}
 use Prim.Native.Nat.{ℕ, zero, suc, ◌*◌}
 use lib.ListN.{take, replicate}
-use Rattle.refusal.proofs.Refusal.{given_sent}
+use Rattle.refusal.proofs.Order.{given_sent}
 use Rattle.card.specs.Card.{card, card_length, write_number}
 use Rattle.finder.specs.Finder.{refuse_find}
 use Rattle.pair.specs.Pair.{congruences_hold, refuse_pair, check_number, check_number_or}

@@ -7,7 +7,7 @@ use Prim.Native.Nat.{ℕ, ◌≤◌}
 use lib.ListN.{length}
 use Rattle.algebra.specs.Lists.{Member}
 use Rattle.algebra.proofs.Lists.{all_member}
-use Rattle.refusal.proofs.Refusal.{sent_given}
+use Rattle.refusal.proofs.Order.{sent_given}
 use Rattle.array.specs.Words.{Words, all_below}
 use Rattle.refusal.proofs.Lists.{words_of}
 use Rattle.arithmetic.specs.Calls.{residue_number}

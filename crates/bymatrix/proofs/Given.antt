@@ -8,7 +8,7 @@ use native.Mathlib.Omega.{arith}
 use Rattle.array.specs.Words.{Words}
 use Rattle.refusal.specs.Refusal.{refuse, bad_prime, bad_degree, bad_length, bad_word}
 use Rattle.refusal.proofs.Lists.{words_of, lengths_given, below_given, given_below}
-use Rattle.refusal.proofs.Refusal.{refuse_none, prime_bounds, degree_given}
+use Rattle.refusal.proofs.Order.{refuse_none, prime_bounds, degree_given}
 use Rattle.table.specs.Table.{table_number}
 use Rattle.table.proofs.Convertible.{lengths_passed, passed_lengths}
 use Rattle.bymatrix.specs.ByMatrix.{by_matrix_number}

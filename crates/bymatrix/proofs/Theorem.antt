@@ -15,7 +15,7 @@ use Rattle.pair.proofs.Theorem.{checker_theorem}
 use Rattle.quotient.specs.Residue.{substitute}
 use Rattle.refusal.specs.Refusal.{bad_word, written}
 use Rattle.refusal.proofs.Lists.{given_lengths, words_below}
-use Rattle.refusal.proofs.Refusal.{given_prime, given_degree}
+use Rattle.refusal.proofs.Order.{given_prime, given_degree}
 use Rattle.table.specs.Table.{converted, table_number}
 use Rattle.table.proofs.Convertible.{table_given}
 use Rattle.table.proofs.Groups.{table_groups, groups_same, images}

@@ -15,7 +15,7 @@ use Rattle.array.proofs.Words.{words_length}
 use Rattle.modular.specs.Prime.{largest_prime}
 use Rattle.refusal.specs.Refusal.{bad_prime, bad_degree, bad_length, bad_word}
 use Rattle.refusal.proofs.Lists.{words_of, lengths_given, given_lengths, below_given, words_given, given_words}
-use Rattle.refusal.proofs.Refusal.{refuse_none, prime_given, given_prime, degree_given, given_degree}
+use Rattle.refusal.proofs.Order.{refuse_none, prime_given, given_prime, degree_given, given_degree}
 use Rattle.card.specs.Card.{bad_kind, word_count, card_length, card_prime, card_degree, card_kind, card_words, bad_header, bad_layout, fill_bits, read_number, write_number}
 use Rattle.card.proofs.Header.{or-false_both, word_count_lem}
 use Rattle.card.proofs.Zeros.{is_zero}

@@ -10,7 +10,7 @@ use lib.Dec.{eqb, ltb}
 use lib.ListN.{length}
 use Rattle.array.specs.Digits.{digits}
 use Rattle.refusal.specs.Refusal.{refuse, bad_prime, bad_degree}
-use Rattle.refusal.proofs.Refusal.{refuse_none, prime_bounds, degree_given, Follows, passed, follows_next, follows_stays, follows_passes}
+use Rattle.refusal.proofs.Order.{refuse_none, prime_bounds, degree_given, Follows, passed, follows_next, follows_stays, follows_passes}
 use Rattle.refusal.proofs.Written.{output_new, output_old}
 use Rattle.sieve.specs.Clauses.{Sieved}
 use Rattle.catalogue.specs.Catalogue.{most_polynomials, models, count_number, model_count, list_number, list_output}

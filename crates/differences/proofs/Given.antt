@@ -1,7 +1,7 @@
 -- What it means that 2, 9 and 10 do not apply, and what the lists lent for the differences and for the restored table then hold.
 use Rattle.std.proofs.Common.{◌≡◌, ℕ, ◌≤◌, List, length, sym, ap, ◌∙◌}
 use Rattle.refusal.specs.Refusal.{refuse, bad_degree, largest_degree, written}
-use Rattle.refusal.proofs.Refusal.{refuse_none, degree_given, given_degree}
+use Rattle.refusal.proofs.Order.{refuse_none, degree_given, given_degree}
 use Rattle.table.specs.Table.{refuse_table}
 use Rattle.table.proofs.Convertible.{Lengths, lengths_passed, passed_lengths}
 use Rattle.differences.specs.Differences.{differences, restored, differences_number, differences_output, restore_output}

@@ -22,7 +22,7 @@ use Rattle.pair.specs.Pair.{congruences_hold, check_number_or}
 use Rattle.quotient.specs.Divisor.{monic, polynomial_product}
 use Rattle.quotient.specs.DivisorTest.{divides_test, has_divisor}
 use Rattle.quotient.specs.Residue.{residues, prefixed, sum, scale, constant, shift, top, times_x, product, power, residue_of_x, substitute, modulus_at}
-use Rattle.refusal.proofs.Refusal.{refuse_none}
+use Rattle.refusal.proofs.Order.{refuse_none}
 use Rattle.array.specs.Array.{padded}
 use Rattle.held.specs.Held.{valid, valid_as, valid_held, view_as, view, paired_held}
 use Rattle.table.specs.Table.{each_group, converted, table_number}

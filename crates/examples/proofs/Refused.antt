@@ -7,7 +7,7 @@ use lib.ListN.{length, get_or}
 use Rattle.finder.specs.Finder.{findable, refuse_find, find_number}
 use Rattle.finder.proofs.Findable.{find_models}
 use Rattle.refusal.specs.Models.{Models}
-use Rattle.refusal.proofs.Refusal.{prime_given, degree_given}
+use Rattle.refusal.proofs.Order.{prime_given, degree_given}
 use Rattle.refusal.specs.Refusal.{bad_prime, bad_degree, bad_word}
 use Rattle.quotient.specs.Divisor.{monic, polynomial_product}
 use Rattle.quotient.specs.DivisorTest.{has_divisor}

@@ -11,7 +11,7 @@ use lib.ListN.{length}
 use Rattle.quotient.specs.DivisorTest.{has_divisor}
 use Rattle.refusal.specs.Models.{Model, Models}
 use Rattle.roots.specs.Roots.{Admissible}
-use Rattle.refusal.proofs.Refusal.{refuse_none, given_sent}
+use Rattle.refusal.proofs.Order.{refuse_none, given_sent}
 use Rattle.refusal.proofs.Models.{models_sent}
 use Rattle.galois.specs.Tower.{exponent}
 use Rattle.galois.proofs.Exponent.{exponent_is, exponent_found, not_a_divisor}

@@ -16,7 +16,7 @@ use Rattle.refusal.specs.Models.{Models}
 use Rattle.pair.proofs.Theorem.{checker_theorem}
 use Rattle.quotient.specs.Divisor.{HasDivisor}
 use Rattle.quotient.specs.DivisorTest.{has_divisor}
-use Rattle.refusal.proofs.Refusal.{sent_given}
+use Rattle.refusal.proofs.Order.{sent_given}
 use Rattle.quotient.proofs.Decision.{test_has_divisor, has_divisor_test, test_irreducible, irreducible_test}
 use Rattle.finder.specs.Finder.{Findable, refuse_find, find_s, find_r, find_number, find_output_s, find_output_r}
 use Rattle.finder.specs.Stored.{EveryScalingAccepted}

@@ -14,7 +14,7 @@ use lib.Seq.{length-take-le}
 use Rattle.algebra.specs.Lists.{All}
 use Rattle.refusal.specs.Models.{Models}
 use Rattle.refusal.specs.Refusal.{bad_prime, bad_degree, bad_word, largest_degree}
-use Rattle.refusal.proofs.Refusal.{Sent, prime_given, degree_given, given_prime, given_degree}
+use Rattle.refusal.proofs.Order.{Sent, prime_given, degree_given, given_prime, given_degree}
 use Rattle.refusal.proofs.Lists.{below_given, given_below}
 use Rattle.refusal.proofs.Models.{sent_models}
 use Rattle.held.specs.Held.{valid}

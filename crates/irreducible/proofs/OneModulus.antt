@@ -12,7 +12,7 @@ use Rattle.array.proofs.Words.{words_length}
 use Rattle.quotient.specs.DivisorTest.{has_divisor}
 use Rattle.refusal.specs.Refusal.{refuse, refuse_sent}
 use Rattle.refusal.proofs.Models.{sent_model}
-use Rattle.refusal.proofs.Refusal.{Sent, sent_given, given_sent, sent_stays}
+use Rattle.refusal.proofs.Order.{Sent, sent_given, given_sent, sent_stays}
 use Rattle.refusal.specs.Models.{Model}
 use Rattle.irreducible.specs.Irreducible.{irreducible_number}
 

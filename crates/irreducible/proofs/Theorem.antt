@@ -11,7 +11,7 @@ use Rattle.quotient.specs.Residue.{Inverses}
 use Rattle.quotient.proofs.Decision.{irreducible_test, test_irreducible}
 use Rattle.refusal.specs.Refusal.{refuse}
 use Rattle.refusal.proofs.Models.{sent_model, model_sent}
-use Rattle.refusal.proofs.Refusal.{refuse_none, sent_given, given_sent}
+use Rattle.refusal.proofs.Order.{refuse_none, sent_given, given_sent}
 use Rattle.irreducible.specs.Rabin.{RabinsCriterion}
 use Rattle.irreducible.specs.Irreducible.{irreducible_number, IrreducibleTheorem}
 use Rattle.irreducible.proofs.Criterion as Criterion

@@ -7,7 +7,7 @@ use native.Mathlib.Omega.{arith}
 use lib.ListN.{length, take}
 use Rattle.array.specs.Words.{Words}
 use Rattle.refusal.specs.Refusal.{refuse, refuse_sent, bad_prime, bad_degree, bad_length, bad_word}
-use Rattle.refusal.proofs.Refusal.{Sent, sent_given, given_sent, sent_stays}
+use Rattle.refusal.proofs.Order.{Sent, sent_given, given_sent, sent_stays}
 use Rattle.refusal.proofs.Models.{given}
 use Rattle.array.proofs.Words.{words_length}
 use Rattle.array.specs.Array.{padded, Holds}

@@ -5,7 +5,7 @@ use mathlib.Core.List.{[], ◌∷◌}
 use Rattle.quotient.specs.Divisor.{HasDivisor}
 use Rattle.quotient.specs.DivisorTest.{has_divisor}
 use Rattle.quotient.proofs.Decision.{has_divisor?, irreducible_test, test_irreducible}
-use Rattle.refusal.proofs.Refusal.{refuse_none, sent_given, given_sent}
+use Rattle.refusal.proofs.Order.{refuse_none, sent_given, given_sent}
 use Rattle.pair.specs.Pair.{Congruences, congruences_hold, refuse_pair, check_number_or}
 use Rattle.pair.specs.Theorem.{CheckerTheorem, CongruencesTheorem, DivisorsTogether, DegreeOne}
 use Rattle.pair.proofs.CongruenceTest.{hold_of_congruences, congruences_of_hold, isomorphisms_of_congruences}

@@ -11,7 +11,7 @@ use Rattle.algebra.specs.Lists.{all}
 use Rattle.array.proofs.Words.{words_length}
 use Rattle.refusal.specs.Models.{Models, Given}
 use Rattle.refusal.specs.Refusal.{refuse, refuse_sent, bad_length, bad_word}
-use Rattle.refusal.proofs.Refusal.{given_prime, given_degree, sent_given}
+use Rattle.refusal.proofs.Order.{given_prime, given_degree, sent_given}
 use Rattle.refusal.proofs.Lists.{words_below}
 use Rattle.refusal.proofs.Models.{sent_models}
 use Rattle.pair.specs.Pair.{refuse_pair, check_number, check_number_or}

@@ -16,7 +16,7 @@ use Rattle.quotient.specs.DivisorTest.{has_divisor}
 use Rattle.quotient.specs.Residue.{residues}
 use Rattle.refusal.specs.Models.{Model, Models}
 use Rattle.refusal.specs.Refusal.{refuse, bad_prime, bad_degree, bad_length, bad_word}
-use Rattle.refusal.proofs.Refusal.{refuse_other, refuse_none, prime_given, degree_given}
+use Rattle.refusal.proofs.Order.{refuse_other, refuse_none, prime_given, degree_given}
 use Rattle.promises.specs.ListedModels.{ListedIsIrreducible, FinderTakesListed}
 
 -- what the number 0 leaves

@@ -7,7 +7,7 @@ use Rattle.algebra.specs.Lists.{All}
 use Rattle.array.proofs.Words.{words_length}
 use Rattle.refusal.specs.Models.{Model, Models, Given}
 use Rattle.refusal.proofs.Lists.{words_of, words_below}
-use Rattle.refusal.proofs.Refusal.{Sent}
+use Rattle.refusal.proofs.Order.{Sent}
 
 module _ (p n : ℕ) (t : List ℕ) where
   pub model_sent : Model p n t → Sent p n (t ∷ []) (t ∷ [])

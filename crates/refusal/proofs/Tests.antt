@@ -1,21 +1,16 @@
--- The tests behind 1 to 4, composed list by list: what they say together is whether each condition applies.
+-- The tests behind 1 to 4: by what they say, the first of 1 to 4 that applies.
 --   degree_low, degree_high       the test of n
---   length_right, length_wrong    the test of one length
---   words_right, words_wrong      the test of the words of one list
---   lengths_none, lengths_next    one more list before those whose lengths were tested
---   words_none, words_next        the same of their words
---   sent_number                   the number by the four tests is that of 1 to 4
-use mathlib.Core.Path.{◌≡◌, refl}
-use mathlib.Core.Bool.{Bool, true, false, not, ◌&&◌, not-not}
-use mathlib.Core.List.{List, [], ◌∷◌}
-use Prim.Native.Nat.{ℕ, ◌≤◌, ◌<◌}
-use borrow.Author.Tests.{le-leb, lt-leb, eq-eqb, ne_eqb}
-use lib.Dec.{leb, eqb}
-use lib.ListN.{length}
-use Rattle.algebra.specs.Lists.{all}
+--   lengths_tested, words_tested  the tests of the lengths and of the words of lists
+--   by_prime, by_degree, by_exact, by_lengths, by_words, by_none    the number, by the first test that fails, if any
+use Rattle.std.specs.List.{All}
+use Rattle.std.proofs.Common.{◌≡◌, refl, ℕ, zero, suc, ◌≤◌, ◌<◌, ◌↔◌, Bool, true, false, not, IsTrue, List, [], ◌∷◌, length, map, Bor, arith}
+use borrow.Author.Tests.{le-leb, lt-leb}
+use lib.Dec.{leb}
+use Rattle.algebra.specs.Lists as Lists
 use Rattle.array.specs.Words.{all_below}
 use Rattle.modular.specs.Prime.{is_prime}
-use Rattle.refusal.specs.Refusal.{refuse, refuse_sent, bad_prime, is_degree, bad_degree, bad_length, bad_word}
+use Rattle.refusal.specs.Refusal.{refuse_sent_or, bad_prime, is_degree, bad_degree, bad_length, bad_word}
+use Rattle.refusal.proofs.Lists.{lengths_given, given_lengths, below_given, given_below}
 
 pub degree_low : (n : ℕ) → n < 1 → leb 1 n ≡ is_degree n
 unfolding is_degree
@@ -25,38 +20,65 @@ pub degree_high : (n : ℕ) → 1 ≤ n → leb n 16 ≡ is_degree n
 unfolding is_degree
 degree_high n h = rw (le-leb 1 n h)
 
-pub length_right : (n : ℕ) (xs : List ℕ) (others : Bool) → length xs ≡ n → others ≡ (eqb (length xs) n && others)
-length_right n xs others h = rw (eq-eqb (length xs) n h)
+-- the lists to which references point
 
-pub length_wrong : (n : ℕ) (xs : List ℕ) (others : Bool) → (length xs ≡ n → ⊥) → eqb (length xs) n ≡ (eqb (length xs) n && others)
-length_wrong n xs others h = rw (ne_eqb (length xs) n h)
+abbrev pub pointed : List (Bor (List ℕ)) → List (List ℕ)
+pointed xs = map (λ x. x.now) xs
 
-pub words_right : (p : ℕ) (xs : List ℕ) (b others : Bool) → b ≡ all_below p xs → b ≡ true → others ≡ (all_below p xs && others)
-words_right p xs b others e h = rw (← e, h)
+of_places : (P : List ℕ → Type 0) (xs : List (Bor (List ℕ))) → All (λ x. P x.now) xs → Lists.All P (pointed xs)
+of_places P [] h = tt
+of_places P (x ∷ xs) h = (h 0 x (omega arith), of_places P xs (λ k d l. h (suc k) d (omega arith)))
 
-pub words_wrong : (p : ℕ) (xs : List ℕ) (b others : Bool) → b ≡ all_below p xs → b ≡ false → b ≡ (all_below p xs && others)
-words_wrong p xs b others e h = rw (← e, h)
+at_places : (P : List ℕ → Type 0) (xs : List (Bor (List ℕ))) → Lists.All P (pointed xs) → All (λ x. P x.now) xs
+at_places P [] h k d l = absurd (omega arith)
+at_places P (x ∷ xs) h zero d l = h.0
+at_places P (x ∷ xs) h (suc k) d l = at_places P xs h.1 k d (omega arith)
 
-pub lengths_none : (n : ℕ) → true ≡ not (bad_length n [])
-unfolding bad_length all
-lengths_none n = refl
+-- a test that is true exactly where another is false
+opposite : (r b : Bool) → (r ≡ true → b ≡ false) → (b ≡ false → r ≡ true) → b ≡ not r
+opposite true b f g = f refl
+opposite false true f g = refl
+opposite false false f g = g refl
 
-pub lengths_next : (n : ℕ) (xs : List ℕ) (xss : List (List ℕ)) (r others : Bool) → r ≡ (eqb (length xs) n && others)
-    → others ≡ not (bad_length n xss) → r ≡ not (bad_length n (xs ∷ xss))
-unfolding bad_length all
-lengths_next n xs xss r others e h = rw (e, h, not-not (all (λ ys. eqb (length ys) n) xss), not-not (all (λ ys. eqb (length ys) n) (xs ∷ xss)))
+module _ (n : ℕ) (xs : List (Bor (List ℕ))) (r : Bool) where
+  pub lengths_tested : (IsTrue r ↔ All (λ x. length x.now ≡ n) xs) → bad_length n (pointed xs) ≡ not r
+  lengths_tested e =
+      opposite r (bad_length n (pointed xs))
+      (λ h. given_lengths n (pointed xs) (of_places (λ x. length x ≡ n) xs (e.0 h)))
+      (λ h. e.1 (at_places (λ x. length x ≡ n) xs (lengths_given n (pointed xs) h)))
 
-pub words_none : (p : ℕ) → true ≡ not (bad_word p [])
-unfolding bad_word all
-words_none p = refl
+  pub words_tested : (IsTrue r ↔ All (λ x. all_below n x.now ≡ true) xs) → bad_word n (pointed xs) ≡ not r
+  words_tested e =
+      opposite r (bad_word n (pointed xs))
+      (λ h. given_below n (pointed xs) (of_places (λ x. all_below n x ≡ true) xs (e.0 h)))
+      (λ h. e.1 (at_places (λ x. all_below n x ≡ true) xs (below_given n (pointed xs) h)))
 
-pub words_next : (p : ℕ) (xs : List ℕ) (xss : List (List ℕ)) (r others : Bool) → r ≡ (all_below p xs && others)
-    → others ≡ not (bad_word p xss) → r ≡ not (bad_word p (xs ∷ xss))
-unfolding bad_word all
-words_next p xs xss r others e h = rw (e, h, not-not (all (all_below p) xss), not-not (all (all_below p) (xs ∷ xss)))
+-- the number, where the tests before the first that fails are true
 
-pub sent_number : (p n r : ℕ) (xss yss : List (List ℕ)) (prime degree lengths words : Bool)
-    → r ≡ refuse 1 (not prime) (refuse 2 (not degree) (refuse 3 (not lengths) (refuse 4 (not words) 0)))
-    → prime ≡ is_prime p → degree ≡ is_degree n → lengths ≡ not (bad_length n xss) → words ≡ not (bad_word p yss) → r ≡ refuse_sent p n xss yss 0
-unfolding bad_prime bad_degree
-sent_number p n r xss yss prime degree lengths words e a b c d = rw (e, a, b, c, d, not-not (bad_length n xss), not-not (bad_word p yss))
+module _ (p n : ℕ) (exact : Bool) (xss yss : List (List ℕ)) where
+  abbrev number : ℕ
+  number = refuse_sent_or (not exact) p n xss yss 0
+
+  pub by_prime : is_prime p ≡ false → 1 ≡ number
+  unfolding bad_prime
+  by_prime a = rw a
+
+  pub by_degree : is_prime p ≡ true → is_degree n ≡ false → 2 ≡ number
+  unfolding bad_prime bad_degree
+  by_degree a b = rw (a, b)
+
+  pub by_exact : is_prime p ≡ true → is_degree n ≡ true → exact ≡ false → 3 ≡ number
+  unfolding bad_prime bad_degree
+  by_exact a b c = rw (a, b, c)
+
+  pub by_lengths : is_prime p ≡ true → is_degree n ≡ true → exact ≡ true → bad_length n xss ≡ true → 3 ≡ number
+  unfolding bad_prime bad_degree
+  by_lengths a b c d = rw (a, b, c, d)
+
+  pub by_words : is_prime p ≡ true → is_degree n ≡ true → exact ≡ true → bad_length n xss ≡ false → bad_word p yss ≡ true → 4 ≡ number
+  unfolding bad_prime bad_degree
+  by_words a b c d e = rw (a, b, c, d, e)
+
+  pub by_none : is_prime p ≡ true → is_degree n ≡ true → exact ≡ true → bad_length n xss ≡ false → bad_word p yss ≡ false → 0 ≡ number
+  unfolding bad_prime bad_degree
+  by_none a b c d e = rw (a, b, c, d, e)

@@ -1,6 +1,10 @@
-// The refusals 1 to 4 (document 01, "Caused by what was sent"), once for all calls: a test for p, one for n, and two for each list, which a call
-// composes for the lists that it is lent.
-//   sent   the tests, and the number of the first that fails
+// The refusals of all calls (document 01, "Caused by what was sent" and "Caused by where the session is"; document 02), each with its number, and the
+// tests behind 1 to 4, once for all calls.
+//   number   the refusals and their numbers
+//   sent     the tests behind 1 to 4, and the first that fails
 #![tactic(auto)]
 
+pub mod number;
 pub mod sent;
+
+pub use crate::number::{Refusal, number_of};

@@ -14,7 +14,7 @@ use lib.ListN.{length}
 use borrow.Author.Tests.{not-false, eqb-true, eq-eqb, ltb-false, le-ltb}
 use Rattle.refusal.specs.Refusal.{refuse, bad_word}
 use Rattle.array.specs.Words.{Words}
-use Rattle.refusal.proofs.Refusal.{refuse_none}
+use Rattle.refusal.proofs.Order.{refuse_none}
 use Rattle.refusal.proofs.Lists.{words_of, below_given, given_words}
 use Rattle.table.specs.Table.{most_words, refuse_table, table_number}
 

@@ -11,7 +11,7 @@ use Rattle.array.proofs.Words.{words_length}
 use Rattle.matrix.specs.Matrix.{Rows, matrix_product}
 use Rattle.modular.specs.Prime.{is_prime}
 use Rattle.refusal.specs.Refusal.{refuse, is_degree, bad_prime, bad_degree, bad_length, bad_word}
-use Rattle.refusal.proofs.Refusal.{Follows, passed, follows_next, follows_stays, follows_passes, refuse_none, degree_given}
+use Rattle.refusal.proofs.Order.{Follows, passed, follows_next, follows_stays, follows_passes, refuse_none, degree_given}
 use Rattle.refusal.proofs.Written.{output_new, output_old}
 use Rattle.table.specs.Table.{each_group, refuse_table, table_number}
 use Rattle.table.proofs.Convertible.{table_given}

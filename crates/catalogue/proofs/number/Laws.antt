@@ -8,7 +8,7 @@ use borrow.Author.Tests.{lt-ltb, le-ltb, not-true, not-false}
 use lib.Dec.{ltb}
 use Rattle.modular.specs.Prime.{largest_prime, is_prime}
 use Rattle.refusal.specs.Refusal.{refuse, bad_prime, is_degree, bad_degree}
-use Rattle.refusal.proofs.Refusal.{prime_bounds}
+use Rattle.refusal.proofs.Order.{prime_bounds}
 use Rattle.sieve.proofs.digits.Turns as Turns
 use Rattle.catalogue.specs.Catalogue.{most_polynomials, count_number}
 

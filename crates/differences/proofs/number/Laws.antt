@@ -1,7 +1,7 @@
 -- What the two tests of `differences_number` say of the number.
 use Rattle.std.proofs.Common.{◌≡◌, ℕ, ◌≤◌, Bool, true, false, not, List, sym, ap, ◌∙◌}
 use Rattle.refusal.specs.Refusal.{refuse, is_degree, bad_degree}
-use Rattle.refusal.proofs.Refusal.{degree_given}
+use Rattle.refusal.proofs.Order.{degree_given}
 use Rattle.table.specs.Table.{refuse_table}
 use Rattle.differences.specs.Differences.{differences_number}
 

@@ -7,7 +7,7 @@ use lib.ListN.{length, take}
 use Rattle.quotient.proofs.Decision.{test_irreducible}
 use Rattle.refusal.specs.Refusal.{refuse_sent, written}
 use Rattle.array.specs.Words.{Words, word_bound}
-use Rattle.refusal.proofs.Refusal.{Sent, sent_given, given_sent, sent_stays}
+use Rattle.refusal.proofs.Order.{Sent, sent_given, given_sent, sent_stays}
 use Rattle.refusal.proofs.Models.{sent_models}
 use Rattle.array.proofs.Words.{words_length, words_up}
 use Rattle.array.specs.Array.{padded, Holds}

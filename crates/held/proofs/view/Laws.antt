@@ -8,8 +8,8 @@ use Rattle.algebra.specs.Lists.{all}
 use Rattle.array.specs.Words.{all_below}
 use Rattle.modular.specs.Prime.{is_prime}
 use Rattle.refusal.specs.Refusal.{is_degree, bad_prime, bad_degree, bad_word, largest_degree}
-use Rattle.refusal.proofs.Refusal.{degree_given}
-use Rattle.refusal.proofs.Tests.{words_next}
+use Rattle.refusal.proofs.Order.{degree_given}
+use Rattle.refusal.proofs.Former.{words_next}
 use Rattle.held.specs.Held.{valid, valid_as, valid_held, t1_of, t2_of, s_of, r_of, view}
 use Rattle.held.specs.ViewState.{view_state}
 use Rattle.held.specs.declared.Held.{Held}

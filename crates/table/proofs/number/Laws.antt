@@ -9,7 +9,7 @@ use lib.ListN.{length}
 use Rattle.algebra.specs.Lists.{all}
 use Rattle.array.specs.Words.{all_below}
 use Rattle.refusal.specs.Refusal.{refuse, bad_word}
-use Rattle.refusal.proofs.Refusal.{Follows, passed, follows_next, follows_stays, follows_passes}
+use Rattle.refusal.proofs.Order.{Follows, passed, follows_next, follows_stays, follows_passes}
 use Rattle.table.specs.Table.{most_words, refuse_table, table_number}
 
 -- 9 and 10

@@ -9,7 +9,7 @@ use Rattle.modular.specs.Prime.{largest_prime, is_prime}
 use Rattle.array.specs.Words.{all_below}
 use Rattle.refusal.specs.Refusal.{refuse, bad_prime, is_degree, bad_degree, bad_length, bad_word}
 use Rattle.card.specs.Card.{layout, header_bits, is_over, width, bad_kind, word_count, card_length, write_number}
-use Rattle.refusal.proofs.Refusal.{prime_bounds, degree_given}
+use Rattle.refusal.proofs.Order.{prime_bounds, degree_given}
 use Rattle.refusal.proofs.Lists.{given_lengths}
 use Rattle.card.proofs.OneList.{bad_length_one, bad_word_one}
 use Rattle.card.proofs.CardKinds.{none_refused, some_good}

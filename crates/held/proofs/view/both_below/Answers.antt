@@ -1,5 +1,5 @@
 -- The two lists are tested one after the other.
-use Rattle.refusal.proofs.Tests.{words_none}
+use Rattle.refusal.proofs.Former.{words_none}
 use Rattle.held.proofs.view.Laws.{words_front}
 use Rattle.held.proofs.view.both_below.Goals as goal
 
