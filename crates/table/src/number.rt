@@ -1,37 +1,35 @@
 // The refusals by the table and the list lent for its image.
 ghost use Rattle.std.specs.Prelude.{◌≡◌, ◌≤◌};
+ghost use Rattle.refusal.specs.Number.{number_of};
 ghost use Rattle.table.specs.Table.{refuse_table, table_number};
 
 use crate::WORDS;
 use array::Word;
 use array::list::below;
+use refusal::Refusal;
 
-// 9 and 10, 0 where neither applies.
-pub fn length_number(n: usize, table: &[Word], out: &[Word]) -> u32
+// 9 and 10: whether the table is whole groups of n words, not too many, and the list lent has its length.
+pub fn lengths(n: usize, table: &[Word], out: &[Word]) -> Result<(), Refusal>
     requires { 1 ≤ n }
-    ensures { result ≡ refuse_table n table.now out.now 0 }
+    ensures { number_of result ≡ refuse_table n table.now out.now 0 }
 {
-    let length = table.len();
-    if length > WORDS {
-        return 9;
+    if table.len() > WORDS || table.len() % n != 0 {
+        return Err(Refusal::TableLength);
     }
-    if length % n != 0 {
-        return 9;
+    if out.len() != table.len() {
+        return Err(Refusal::OutputLength);
     }
-    if out.len() != length {
-        return 10;
-    }
-    0
+    Ok(())
 }
 
-// 9, 10 and 4, 0 where none applies.
-pub fn table_number(p: u32, n: usize, table: &[Word], out: &[Word]) -> u32
+// 9, 10 and 4: the lengths, and then the table's words.
+pub fn check_table(p: u32, n: usize, table: &[Word], out: &[Word]) -> Result<(), Refusal>
     requires { 1 ≤ n }
-    ensures { result ≡ table_number p n table.now out.now }
+    ensures { number_of result ≡ table_number p n table.now out.now }
 {
-    let lengths = length_number(n, table, out);
-    if lengths != 0 {
-        return lengths;
+    lengths(n, table, out)?;
+    if !below(p, table) {
+        return Err(Refusal::Word);
     }
-    if below(p, table) { 0 } else { 4 }
+    Ok(())
 }
