@@ -16,14 +16,14 @@ use Rattle.refusal.proofs.Order.{Sent, sent_given, given_sent, sent_stays}
 use Rattle.refusal.specs.Models.{Model}
 use Rattle.irreducible.specs.Irreducible.{irreducible_number}
 
-module _ (p n number : ℕ) (t : List ℕ) (e : number ≡ refuse_sent p n (t ∷ []) (t ∷ []) 0) where
-  pub one_refused : (number ≡ 0 → ⊥) → number ≡ irreducible_number p n t
+module _ (p n : ℕ) (t : List ℕ) where
+  pub one_refused : (k : ℕ) → k ≡ refuse_sent p n (t ∷ []) (t ∷ []) 0 → (k ≡ 0 → ⊥) → k ≡ irreducible_number p n t
   unfolding irreducible_number
-  one_refused h = sent_stays p n (t ∷ []) (t ∷ []) _ number e h
+  one_refused k e h = sent_stays p n (t ∷ []) (t ∷ []) _ k e h
 
-  module _ (h : number ≡ 0) where
+  module _ (e : 0 ≡ refuse_sent p n (t ∷ []) (t ∷ []) 0) where
     sent : Sent p n (t ∷ []) (t ∷ [])
-    sent = (sent_given p n (t ∷ []) (t ∷ []) 0 (sym e ∙ h)).0
+    sent = (sent_given p n (t ∷ []) (t ∷ []) 0 (sym e)).0
 
     pub one_given : Model p n t
     one_given = sent_model p n t sent

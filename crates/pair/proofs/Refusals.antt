@@ -2,12 +2,12 @@
 use mathlib.Core.Path.{◌≡◌, refl, sym, ◌∙◌}
 use mathlib.Core.Bool.{Bool, true, false, not}
 use mathlib.Core.List.{List, [], ◌∷◌}
-use Prim.Native.Nat.{ℕ, ◌^◌, ◌≤◌, ◌<◌}
+use Prim.Native.Nat.{ℕ, ◌^◌, ◌≤◌}
 use native.Mathlib.Omega.{arith}
 use lib.ListN.{length, take}
 use Rattle.array.specs.Words.{Words}
-use Rattle.refusal.specs.Refusal.{refuse, refuse_sent, bad_prime, bad_degree, bad_length, bad_word}
-use Rattle.refusal.proofs.Order.{Sent, sent_given, given_sent, sent_stays}
+use Rattle.refusal.specs.Refusal.{refuse, refuse_sent_or, bad_prime, bad_degree}
+use Rattle.refusal.proofs.Order.{sent_or_stays, sent_or_given, sent_or_passes}
 use Rattle.refusal.proofs.Models.{given}
 use Rattle.array.proofs.Words.{words_length}
 use Rattle.array.specs.Array.{padded, Holds}
@@ -21,21 +21,21 @@ use Rattle.pair.proofs.Fields.{second_none}
 
 -- the number
 
-module _ (p n number : ℕ) (t1 t2 s r : List ℕ) (e : number ≡ refuse_sent p n (t1 ∷ t2 ∷ s ∷ r ∷ []) (t1 ∷ t2 ∷ s ∷ r ∷ []) 0) where
-  pub check_refused : (number ≡ 0 → ⊥) → number ≡ check_number p n t1 t2 s r
+module _ (b : Bool) (p n : ℕ) (t1 t2 s r : List ℕ) where
+  abbrev lists : List (List ℕ)
+  lists = t1 ∷ t2 ∷ s ∷ r ∷ []
+
+  pub check_refused : (k : ℕ) → k ≡ refuse_sent_or b p n lists lists 0 → (k ≡ 0 → ⊥) → k ≡ check_number_or b p n t1 t2 s r
   unfolding check_number_or
-  check_refused h = sent_stays p n (t1 ∷ t2 ∷ s ∷ r ∷ []) (t1 ∷ t2 ∷ s ∷ r ∷ []) _ number e h
+  check_refused k e h = sent_or_stays b p n lists lists _ k e h
 
-  module _ (h : number ≡ 0) where
-    sent : Sent p n (t1 ∷ t2 ∷ s ∷ r ∷ []) (t1 ∷ t2 ∷ s ∷ r ∷ [])
-    sent = (sent_given p n (t1 ∷ t2 ∷ s ∷ r ∷ []) (t1 ∷ t2 ∷ s ∷ r ∷ []) 0 (sym e ∙ h)).0
-
+  module _ (e : 0 ≡ refuse_sent_or b p n lists lists 0) where
     pub check_given : Given p n t1 t2 s r
-    check_given = given p n t1 t2 s r sent
+    check_given = given p n t1 t2 s r (sent_or_given b p n lists lists 0 (sym e)).0
 
-    pub check_pair : (k : ℕ) → k ≡ refuse_pair p t1 t2 s r → k ≡ check_number p n t1 t2 s r
+    pub check_follows : (k : ℕ) → k ≡ refuse_pair p t1 t2 s r → k ≡ check_number_or b p n t1 t2 s r
     unfolding check_number_or
-    check_pair k f = f ∙ sym (given_sent p n (t1 ∷ t2 ∷ s ∷ r ∷ []) (t1 ∷ t2 ∷ s ∷ r ∷ []) _ sent)
+    check_follows k f = f ∙ sym (sent_or_passes b p n lists lists _ (sym e))
 
 -- after 1 to 4: the tests of the moduli and of the congruences
 
@@ -64,46 +64,6 @@ module _ (p n : ℕ) (t1 t2 s r : List ℕ) (g : Given p n t1 t2 s r) where
 
           pub pair_seven : c ≡ false → 7 ≡ refuse_pair p t1 t2 s r
           pair_seven m = rw (first_none, not-false (has_divisor p t2) (sym l ∙ m))
-
--- an output list of the wrong length: 1 and 2 stay, and 3 takes the place of what comes after them
-
-by_first : (number rest : ℕ) → (rest ≡ 1 → ⊥) → (rest ≡ 2 → ⊥) → (a b c d : Bool) → number ≡ refuse 1 a (refuse 2 b (refuse 3 c (refuse 4 d rest)))
-    → (number ≡ 1 → 1 ≡ refuse 1 a (refuse 2 b 3)) × (number ≡ 2 → 2 ≡ refuse 1 a (refuse 2 b 3))
-    × ((number ≡ 1 → ⊥) → (number ≡ 2 → ⊥) → 3 ≡ refuse 1 a (refuse 2 b 3))
-by_first number rest h k true b c d f = (λ g. refl, λ g. absurd (omega arith), λ g l. absurd (g f))
-by_first number rest h k false true c d f = (λ g. absurd (omega arith), λ g. refl, λ g l. absurd (l f))
-by_first number rest h k false false true d f = (λ g. absurd (omega arith), λ g. absurd (omega arith), λ g l. refl)
-by_first number rest h k false false false true f = (λ g. absurd (omega arith), λ g. absurd (omega arith), λ g l. refl)
-by_first number rest h k false false false false f = (λ g. absurd (h (sym f ∙ g)), λ g. absurd (k (sym f ∙ g)), λ g l. refl)
-
--- what comes after 4 is no number from 1 to 5
-after_four : (a b c : Bool) (k : ℕ) → 0 < k → k < 6 → refuse 6 a (refuse 7 b (refuse 8 c 0)) ≡ k → ⊥
-after_four true b c k low high e = omega arith
-after_four false true c k low high e = omega arith
-after_four false false true k low high e = omega arith
-after_four false false false k low high e = omega arith
-
-module _ (p n number : ℕ) (t1 t2 s r : List ℕ) (exact : Bool) (e : number ≡ check_number p n t1 t2 s r) where
-  pub exact_stays : exact ≡ true → number ≡ check_number_or (not exact) p n t1 t2 s r
-  exact_stays f = rw f e
-
-  module _ (f : exact ≡ false) where
-    wrong : (number ≡ 1 → 1 ≡ check_number_or true p n t1 t2 s r) × (number ≡ 2 → 2 ≡ check_number_or true p n t1 t2 s r)
-        × ((number ≡ 1 → ⊥) → (number ≡ 2 → ⊥) → 3 ≡ check_number_or true p n t1 t2 s r)
-    unfolding check_number_or
-    wrong =
-        let after : (k : ℕ) → 0 < k → k < 6 → refuse_pair p t1 t2 s r ≡ k → ⊥ = after_four (has_divisor p t1) (has_divisor p t2) (not (congruences_hold p t1 t2 s r)) in
-        by_first number (refuse_pair p t1 t2 s r) (after 1 (omega arith) (omega arith)) (after 2 (omega arith) (omega arith))
-        (bad_prime p) (bad_degree n) (bad_length n (t1 ∷ t2 ∷ s ∷ r ∷ [])) (bad_word p (t1 ∷ t2 ∷ s ∷ r ∷ [])) e
-
-    pub wrong_one : number ≡ 1 → 1 ≡ check_number_or (not exact) p n t1 t2 s r
-    wrong_one g = rw f (wrong.0 g)
-
-    pub wrong_two : number ≡ 2 → 2 ≡ check_number_or (not exact) p n t1 t2 s r
-    wrong_two g = rw f (wrong.1 g)
-
-    pub wrong_three : (number ≡ 1 → ⊥) → (number ≡ 2 → ⊥) → 3 ≡ check_number_or (not exact) p n t1 t2 s r
-    wrong_three g h = rw f (wrong.2 g h)
 
 -- where none applies, the output list is right, and the checker accepts
 pub none_of_output : (b : Bool) (p n : ℕ) (t1 t2 s r : List ℕ) → check_number_or b p n t1 t2 s r ≡ 0 → (b ≡ false) × (check_number p n t1 t2 s r ≡ 0)
