@@ -33,15 +33,15 @@ counts : (x : Held) → Counts x (view x)
 unfolding view view_as valid_held valid_as
 counts x = go x.state
   where
-    if_valid_lem : (v : View) (b : Bool) → (b ≡ true → Counts x v) → Counts x (if_valid b v)
-    if_valid_lem v true f = f refl
-    if_valid_lem v false f = as_empty
+    counts_if : (v : View) (b : Bool) → (b ≡ true → Counts x v) → Counts x (if_valid b v)
+    counts_if v true f = f refl
+    counts_if v false f = as_empty
 
     go : (state : State)
         → Counts x (if_valid (valid_as state x.p x.n (t1_of x) (t2_of x) (s_of x) (r_of x)) (view_as state x.p x.n (t1_of x) (t2_of x) (s_of x) (r_of x)))
     go Empty = as_empty
-    go Loaded = if_valid_lem _ _ as_loaded
-    go Paired = if_valid_lem _ _ as_paired
+    go Loaded = counts_if _ _ as_loaded
+    go Paired = counts_if _ _ as_paired
 
 module _ (x : Held) (state : State) (e : state ≡ view_state (view x)) where
   pub empty-view : state ≡ Empty → view x ≡ empty

@@ -32,8 +32,8 @@ valid_degree p n xss h = (degree_given n (valid_given p n xss h).1).1
 pub valid_size : (p n : ℕ) (xss : List (List ℕ)) → valid p n xss ≡ true → (2 ≤ p) × (p ≤ 2 ^ 20) × (1 ≤ n) × (n ≤ 16)
 valid_size p n xss h =
     let (prime, degree, _) = valid_given p n xss h in
-    let (is_prime_lem, small) = prime_given p prime in
-    (is_prime_lem.0, omega arith, (degree_given n degree).0, (degree_given n degree).1)
+    let (p_prime, small) = prime_given p prime in
+    (p_prime.0, omega arith, (degree_given n degree).0, (degree_given n degree).1)
 
 pub valid_sent : (p n : ℕ) (xss : List (List ℕ)) → valid p n xss ≡ true → (n ≤ largest_degree → All (λ xs. length xs ≡ n) xss) → Sent p n xss xss
 valid_sent p n xss h lengths =

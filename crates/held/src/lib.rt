@@ -15,14 +15,16 @@ use array::Word;
 pub const DEGREE: usize = refusal::sent::DEGREE as usize;
 
 // Nothing; p, n, T1 and T2; also S and R.
-#[derive(Clone, Copy)]
+#[derive(Clone, Copy, Debug, PartialEq, Eq)]
 pub enum State {
     Empty,
     Loaded,
     Paired,
 }
 
-// The first n words of each array count, and of a state that does not have an item nothing of it counts.
+// The first n words of each array count, and of a state that does not have an item nothing of it
+// counts. The state stands beside the arrays, and no enum has the lists in it, since a value made
+// otherwise is given back as it came (`RefusalsKeep` of pairing), whatever its fields hold.
 #[derive(Clone, Copy)]
 pub struct Held {
     pub state: State,

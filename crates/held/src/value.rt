@@ -13,8 +13,7 @@ pub fn front(xs: &[Word], n: u32) -> &[Word]
     requires { n ≤ length xs.now }
     ensures { result.now ≡ take n xs.now }
 {
-    let k = n as usize;
-    &xs[..k]
+    &xs[..n as usize]
 }
 
 // The words of xs, and zeros after them.
@@ -22,13 +21,9 @@ fn array(xs: &[Word]) -> [Word; DEGREE]
     requires { length xs.now ≤ largest_degree }
     ensures { result ≡ padded xs.now }
 {
-    let mut w = [0; DEGREE];
-    let mut j = 0;
-    while j < xs.len() {
-        w[j] = xs[j];
-        j += 1;
-    }
-    w
+    let mut words = [0; DEGREE];
+    words[..xs.len()].copy_from_slice(xs);
+    words
 }
 
 // Two models.
@@ -36,14 +31,12 @@ pub fn loaded(p: u32, n: u32, t1: &[Word], t2: &[Word]) -> Held
     requires { Models p n t1.now t2.now }
     ensures { result ≡ loaded_held p n t1.now t2.now }
 {
-    let w1 = array(t1);
-    let w2 = array(t2);
     Held {
         state: State::Loaded,
-        p: p,
-        n: n,
-        t1: w1,
-        t2: w2,
+        p,
+        n,
+        t1: array(t1),
+        t2: array(t2),
         s: [0; DEGREE],
         r: [0; DEGREE],
     }
@@ -54,17 +47,13 @@ pub fn paired(p: u32, n: u32, t1: &[Word], t2: &[Word], s: &[Word], r: &[Word]) 
     requires { Given p n t1.now t2.now s.now r.now }
     ensures { result ≡ paired_held p n t1.now t2.now s.now r.now }
 {
-    let w1 = array(t1);
-    let w2 = array(t2);
-    let w3 = array(s);
-    let w4 = array(r);
     Held {
         state: State::Paired,
-        p: p,
-        n: n,
-        t1: w1,
-        t2: w2,
-        s: w3,
-        r: w4,
+        p,
+        n,
+        t1: array(t1),
+        t2: array(t2),
+        s: array(s),
+        r: array(r),
     }
 }

@@ -8,27 +8,21 @@ use crate::value::front;
 use crate::{DEGREE, Held, State};
 use array::Word;
 use modular::prime::is_prime;
-use refusal::sent::{has_words, is_degree};
+use refusal::sent::{have_words, is_degree};
 
 // Whether 4 refuses none of the first n words of two arrays.
 fn both_below(p: u32, n: u32, a: [Word; DEGREE], b: [Word; DEGREE]) -> bool
     requires { n ≤ largest_degree }
     ensures { result ≡ not (bad_word p (take n a ∷ take n b ∷ [])) }
 {
-    has_words(p, front(&a, n), has_words(p, front(&b, n), true))
+    have_words(p, &[front(&a, n), front(&b, n)])
 }
 
 // Whether 1, 2 and 4 refuse neither p nor n nor a word of T1 and T2.
 fn models_valid(p: u32, n: u32, t1: [Word; DEGREE], t2: [Word; DEGREE]) -> bool
     ensures { result ≡ valid p n (take n t1 ∷ take n t2 ∷ []) }
 {
-    if !is_prime(p) {
-        return false;
-    }
-    if !is_degree(n) {
-        return false;
-    }
-    both_below(p, n, t1, t2)
+    is_prime(p) && is_degree(n) && both_below(p, n, t1, t2)
 }
 
 // The same of S and R too.
@@ -42,25 +36,17 @@ fn pair_valid(
 ) -> bool
     ensures { result ≡ valid p n (take n t1 ∷ take n t2 ∷ take n s ∷ take n r ∷ []) }
 {
-    if !models_valid(p, n, t1, t2) {
-        return false;
-    }
-    both_below(p, n, s, r)
+    models_valid(p, n, t1, t2) && both_below(p, n, s, r)
 }
 
 // Whether 1, 2 and 4 refuse no item that the state of x has.
 pub fn is_valid(x: Held) -> bool
     ensures { result ≡ valid_held x }
 {
-    let state = x.state;
-    let t1 = x.t1;
-    let t2 = x.t2;
-    let s = x.s;
-    let r = x.r;
-    match state {
+    match x.state {
         State::Empty => true,
-        State::Loaded => models_valid(x.p, x.n, t1, t2),
-        State::Paired => pair_valid(x.p, x.n, t1, t2, s, r),
+        State::Loaded => models_valid(x.p, x.n, x.t1, x.t2),
+        State::Paired => pair_valid(x.p, x.n, x.t1, x.t2, x.s, x.r),
     }
 }
 

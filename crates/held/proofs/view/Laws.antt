@@ -1,15 +1,16 @@
 -- What a value counts as, by the tests of the code: each law has a test's outcome and what is valid then.
-use mathlib.Core.Path.{◌≡◌, sym, ◌∙◌}
+use Rattle.std.specs.List.{All}
+use Rattle.std.proofs.Common.{Bor, IsTrue, ◌↔◌}
+use mathlib.Core.Path.{◌≡◌, refl, sym, ◌∙◌}
 use mathlib.Core.Bool.{Bool, true, false, not, ◌&&◌, and-true, and_assoc, not-not}
 use mathlib.Core.List.{List, [], ◌∷◌}
 use Prim.Native.Nat.{ℕ, ◌≤◌}
-use borrow.Author.Tests.{not-true, not-false}
 use Rattle.algebra.specs.Lists.{all}
 use Rattle.array.specs.Words.{all_below}
 use Rattle.modular.specs.Prime.{is_prime}
 use Rattle.refusal.specs.Refusal.{is_degree, bad_prime, bad_degree, bad_word, largest_degree}
 use Rattle.refusal.proofs.Order.{degree_given}
-use Rattle.refusal.proofs.Former.{words_next}
+use Rattle.refusal.proofs.Tests.{words_tested}
 use Rattle.held.specs.Held.{valid, valid_as, valid_held, t1_of, t2_of, s_of, r_of, view}
 use Rattle.held.specs.ViewState.{view_state}
 use Rattle.held.specs.declared.Held.{Held}
@@ -17,29 +18,29 @@ use Rattle.held.specs.declared.State.TheVariants.{Empty, Loaded, Paired}
 use Rattle.held.proofs.Contents.{valid_state, invalid_view}
 use Rattle.held.proofs.Valid.{valid_degree}
 
--- one more list, the first words of an array
-pub words_front : (p : ℕ) (xs ys : List ℕ) (xss : List (List ℕ)) (r others : Bool) → xs ≡ ys → r ≡ (all_below p xs && others)
-    → others ≡ not (bad_word p xss) → r ≡ not (bad_word p (ys ∷ xss))
-words_front p xs ys xss r others f e h = words_next p ys xss r others (rw f at e) h
+-- the first words of two arrays
+pub below_both : (p : ℕ) (xs ys : Bor (List ℕ)) (r : Bool) {u v : List ℕ} → xs.now ≡ u → ys.now ≡ v
+    → (IsTrue r ↔ All (λ x. all_below p x.now ≡ true) (xs ∷ ys ∷ [])) → r ≡ not (bad_word p (u ∷ v ∷ []))
+below_both p xs ys r e f h = rw (← e, ← f, words_tested p (xs ∷ ys ∷ []) r h, not-not r)
 
 -- two models
 module _ (p n : ℕ) (prime : Bool) (e : prime ≡ is_prime p) where
-  pub not-prime : (xss : List (List ℕ)) → not prime ≡ true → false ≡ valid p n xss
+  pub not_prime : (xss : List (List ℕ)) → prime ≡ false → false ≡ valid p n xss
   unfolding valid bad_prime
-  not-prime xss h = rw (← e, h)
+  not_prime xss h = rw (← e, h)
 
-  module _ (h : not prime ≡ false) (degree : Bool) (f : degree ≡ is_degree n) where
-    pub no_degree : (xss : List (List ℕ)) → not degree ≡ true → false ≡ valid p n xss
+  module _ (h : prime ≡ true) (degree : Bool) (f : degree ≡ is_degree n) where
+    pub no_degree : (xss : List (List ℕ)) → degree ≡ false → false ≡ valid p n xss
     unfolding valid bad_prime bad_degree
     no_degree xss g = rw (← e, h, ← f, g)
 
-    pub words_decide : (b : Bool) (xss : List (List ℕ)) → not degree ≡ false → b ≡ not (bad_word p xss) → b ≡ valid p n xss
+    pub words_decide : (b : Bool) (xss : List (List ℕ)) → degree ≡ true → b ≡ not (bad_word p xss) → b ≡ valid p n xss
     unfolding valid bad_prime bad_degree
     words_decide b xss g d = rw (← e, h, ← f, g) d
 
-pub degree_fits : (n : ℕ) (degree : Bool) → degree ≡ is_degree n → not degree ≡ false → n ≤ largest_degree
+pub degree_fits : (n : ℕ) (degree : Bool) → degree ≡ is_degree n → degree ≡ true → n ≤ largest_degree
 unfolding bad_degree
-degree_fits n degree f g = (degree_given n (rw f at g)).1
+degree_fits n degree f g = (degree_given n (rw (← f, g) refl)).1
 
 -- a pair too
 module _ (p n : ℕ) (w : Bool) (a b : List ℕ) (e : w ≡ valid p n (a ∷ b ∷ [])) where
@@ -47,14 +48,14 @@ module _ (p n : ℕ) (w : Bool) (a b : List ℕ) (e : w ≡ valid p n (a ∷ b �
   unfolding valid bad_word all
   valid_four c d = simp (not-not, and-true, and_assoc)
 
-  pub models_fail : (c d : List ℕ) → not w ≡ true → false ≡ valid p n (a ∷ b ∷ c ∷ d ∷ [])
-  models_fail c d h = rw (valid_four c d, ← e, not-true w h)
+  pub models_fail : (c d : List ℕ) → w ≡ false → w ≡ valid p n (a ∷ b ∷ c ∷ d ∷ [])
+  models_fail c d h = rw (valid_four c d, ← e, h) refl
 
-  pub models_fit : not w ≡ false → n ≤ largest_degree
-  models_fit h = valid_degree p n (a ∷ b ∷ []) (sym e ∙ not-false w h)
+  pub models_fit : w ≡ true → n ≤ largest_degree
+  models_fit h = valid_degree p n (a ∷ b ∷ []) (sym e ∙ h)
 
-  pub pair_decides : (r : Bool) (c d : List ℕ) → not w ≡ false → r ≡ not (bad_word p (c ∷ d ∷ [])) → r ≡ valid p n (a ∷ b ∷ c ∷ d ∷ [])
-  pair_decides r c d h f = rw (valid_four c d, ← e, not-false w h) f
+  pub pair_decides : (r : Bool) (c d : List ℕ) → w ≡ true → r ≡ not (bad_word p (c ∷ d ∷ [])) → r ≡ valid p n (a ∷ b ∷ c ∷ d ∷ [])
+  pair_decides r c d h f = rw (valid_four c d, ← e, h) f
 
 -- the value
 module _ (x : Held) where

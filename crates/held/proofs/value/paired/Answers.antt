@@ -3,17 +3,17 @@ use Rattle.held.specs.Held.{paired_held}
 use Rattle.held.proofs.value.Laws.{words_fit}
 use Rattle.held.proofs.value.paired.Goals as goal
 
-pub array-w1-requires : goal.array-w1-requires
-array-w1-requires c = search words_fit
+pub array-requires : goal.array-requires
+array-requires c = search words_fit
 
-pub array-w2-requires : goal.array-w2-requires
-array-w2-requires c = search words_fit
+pub array-requires-2 : goal.array-requires-2
+array-requires-2 c = search words_fit
 
-pub array-w3-requires : goal.array-w3-requires
-array-w3-requires c = search words_fit
+pub array-requires-3 : goal.array-requires-3
+array-requires-3 c = search words_fit
 
-pub array-w4-requires : goal.array-w4-requires
-array-w4-requires c = search words_fit
+pub array-requires-4 : goal.array-requires-4
+array-requires-4 c = search words_fit
 
 pub returns : goal.returns
 unfolding paired_held

@@ -1,7 +1,6 @@
--- The two lists are tested one after the other.
-use Rattle.refusal.proofs.Former.{words_none}
-use Rattle.held.proofs.view.Laws.{words_front}
+-- Both lists are tested.
+use Rattle.held.proofs.view.Laws.{below_both}
 use Rattle.held.proofs.view.both_below.Goals as goal
 
 pub returns : goal.returns
-returns c = search (words_none, words_front) depth 6
+returns c = below_both _ _ _ _ c.front.ensures c.front-2.ensures c.have_words.ensures
