@@ -12,17 +12,16 @@ use matrix::words::multiply;
 use modular::barrett::Barrett;
 
 // The products of a matrix with the groups of a table, one after the other: the one conversion of tables, by substitution and by a matrix that is sent.
+// By number and not in chunks: `multiply` loads 16 words without a loop, so it reads past its group.
 pub fn convert_groups(d: Barrett, n: usize, m: &[u64; 256], table: &[Word], out: &mut [Word])
     requires reduces { Reduces d × (1 ≤ n) × (n ≤ 16) }
     requires rows { Rows d.p n m.now }
     requires out_value { table_number d.p n table.now out.old ≡ 0 }
     ensures { out.new ≡ each_group n (matrix_product d.p n m.now) (length table.now / n) table.now }
 {
-    let mut i = 0;
-    while i < table.len() {
-        let e = i + n;
-        multiply(d, n, m, &table[i..], &mut out[i..e]);
-        i = e;
+    for k in 0..table.len() / n {
+        let i = k * n;
+        multiply(d, n, m, &table[i..], &mut out[i..i + n]);
     }
 }
 

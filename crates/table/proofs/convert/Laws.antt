@@ -1,14 +1,12 @@
--- Conversion by a matrix, by the turns of the code: before a turn at i the first i words of the output are the products of the groups passed,
--- and the groups from i on are still to be multiplied.
+-- Conversion by a matrix, by the turns of the code: before turn k the output begins with the products of the first k groups, and the groups from there on
+-- are still to be multiplied.
 --   Progress              the invariant
---   starts, turn, done    it holds at 0; a turn keeps it at i + n; at the end the output is what is promised
+--   starts, turn, done    it holds at 0; a turn keeps it; at the end the output is what is promised
 --   converts              the products with the powers of S are the images
 use mathlib.Core.Path.{◌≡◌, refl, sym, ap, ap₂, ◌∙◌}
 use mathlib.Core.List.{List, ◌++◌, append-nil, append_assoc}
-use Prim.Native.Nat.{ℕ, ◌+◌, ◌-◌, ◌*◌, ◌/◌, ◌%◌, ◌≤◌, ◌<◌}
+use Prim.Native.Nat.{ℕ, ◌+◌, suc, ◌-◌, ◌*◌, ◌/◌, ◌%◌, ◌≤◌, ◌<◌}
 use native.Mathlib.Nat as Nat
-use native.Mathlib.Decide.{dec_lt}
-use native.Mathlib.Numerals.{add-one}
 use native.Mathlib.Omega.{arith}
 use lib.ListN.{length, take, drop, replicate, length-drop, length-append}
 use lib.Seq.{length-take-le, drop-drop, take_at, take_all}
@@ -22,7 +20,7 @@ use Rattle.matrix.proofs.PowerMatrix.{product_substitutes, powers_square}
 use Rattle.array.proofs.Ranges.{range_words, zeros_word}
 use Rattle.quotient.specs.Residue.{substitute}
 use Rattle.table.specs.Table.{each_group, converted, table_number}
-use Rattle.table.proofs.Convertible.{Convertible, table_given}
+use Rattle.table.proofs.Convertible.{table_given, whole_groups}
 use Rattle.table.proofs.Groups.{table_groups, groups_same}
 
 -- one group
@@ -33,21 +31,11 @@ product_words p n m u h = range_words (λ i. row_product m i 0 u % p) 0 n (λ i 
 
 -- the groups
 
-pub record Progress (p n : ℕ) (m table out : List ℕ) (i : ℕ) : Type 0 where
-  pub within : i ≤ length table
-  pub whole : (length table - i) % n ≡ 0
+pub record Progress (p n : ℕ) (m table out : List ℕ) (k : ℕ) : Type 0 where
   pub lengths : length out ≡ length table
   pub image :
-      take i out ++ each_group n (matrix_product p n m) ((length table - i) / n) (drop i table)
+      take (k * n) out ++ each_group n (matrix_product p n m) (length table / n - k) (drop (k * n) table)
       ≡ each_group n (matrix_product p n m) (length table / n) table
-
--- whole groups: what is left has another one
-group_left : (x n : ℕ) → x % n ≡ 0 → 0 < x → n ≤ x
-group_left x n h k = go (dec_lt x n)
-  where
-    go : Dec (x < n) → n ≤ x
-    go (yes l) = absurd (omega (arith, Nat.mod-eq_of_lt l))
-    go (no l) = omega arith
 
 part : (i n : ℕ) (xs : List ℕ) → take (i + n - i) (drop i xs) ≡ take n (drop i xs)
 part i n xs = ap (λ k. take k (drop i xs)) (Nat.add-sub_cancel_left i n)
@@ -55,88 +43,79 @@ part i n xs = ap (λ k. take k (drop i xs)) (Nat.add-sub_cancel_left i n)
 rest : (i : ℕ) (xs : List ℕ) → take (length xs - i) (drop i xs) ≡ drop i xs
 rest i xs = take_all (length xs - i) (drop i xs) (rw length-drop (Nat.le_refl (length xs - i)))
 
-module _ (p n : ℕ) (m table out : List ℕ) (i : ℕ) (g : Progress p n m table out i) (l : i < length table) where
-  pub group_ends : i + n ≤ length table
-  group_ends = omega (arith, group_left (length table - i) n g.whole (omega arith))
+next_group : (n k : ℕ) → (k + 1) * n ≡ k * n + n
+next_group n k = omega arith
 
-  pub output_ends : i + n ≤ length out
+module _ (p n : ℕ) (m table out : List ℕ) (k : ℕ) (g : Progress p n m table out k) (l : k < length table / n) where
+  pub group_ends : k * n + n ≤ length table
+  group_ends = omega (arith, Nat.mul-le-mul_right n l, Nat.div-mul-le_self (length table) n)
+
+  pub output_ends : k * n + n ≤ length out
   output_ends = rw g.lengths group_ends
 
-  pub output_part : length (take (i + n - i) (drop i out)) ≡ n
-  output_part = ap length (part i n out) ∙ length-take-le n (drop i out) (rw length-drop (omega (arith, output_ends)))
+  pub output_part : length (take (k * n + n - k * n) (drop (k * n) out)) ≡ n
+  output_part = ap length (part (k * n) n out) ∙ length-take-le n (drop (k * n) out) (rw length-drop (omega (arith, output_ends)))
 
   -- what is left of the table
-  rest_length : length (take (length table - i) (drop i table)) ≡ length table - i
-  rest_length = ap length (rest i table) ∙ length-drop i table
+  rest_length : length (take (length table - k * n) (drop (k * n) table)) ≡ length table - k * n
+  rest_length = ap length (rest (k * n) table) ∙ length-drop (k * n) table
 
   pub rest_words : (out₀ : List ℕ) → table_number p n table out₀ ≡ 0
-      → Words p (length (take (length table - i) (drop i table))) (take (length table - i) (drop i table))
-  rest_words out₀ h = rw (rest_length, rest i table) (drop_words (table_given p n table out₀ h).words i)
+      → Words p (length (take (length table - k * n) (drop (k * n) table))) (take (length table - k * n) (drop (k * n) table))
+  rest_words out₀ h = rw (rest_length, rest (k * n) table) (drop_words (table_given p n table out₀ h).words (k * n))
 
-  pub rest_long : n ≤ length (take (length table - i) (drop i table))
+  pub rest_long : n ≤ length (take (length table - k * n) (drop (k * n) table))
   rest_long = rw rest_length (omega (arith, group_ends))
 
-  module _ (big : 2 ≤ p) (positive : 1 ≤ n) (z : List ℕ) (d : z ≡ matrix_product p n m (take n (take (length table - i) (drop i table)))) where
-    product : z ≡ matrix_product p n m (take n (drop i table))
-    product = d ∙ ap (λ xs. matrix_product p n m (take n xs)) (rest i table)
+  module _ (big : 2 ≤ p) (z : List ℕ) (d : z ≡ matrix_product p n m (take n (take (length table - k * n) (drop (k * n) table)))) where
+    product : z ≡ matrix_product p n m (take n (drop (k * n) table))
+    product = d ∙ ap (λ xs. matrix_product p n m (take n xs)) (rest (k * n) table)
 
     product_length : length z ≡ n
-    product_length = ap length product ∙ words_length (product_words p n m (take n (drop i table)) (omega arith))
-
-    -- one group less is left
-    left : length table - (i + n) ≡ length table - i - n
-    left = omega arith
-
-    enough : n ≤ length table - i
-    enough = omega (arith, group_ends)
+    product_length = ap length product ∙ words_length (product_words p n m (take n (drop (k * n) table)) (omega arith))
 
     later : List ℕ
-    later = each_group n (matrix_product p n m) ((length table - (i + n)) / n) (drop (i + n) table)
+    later = each_group n (matrix_product p n m) (length table / n - (k + 1)) (drop ((k + 1) * n) table)
 
-    next : each_group n (matrix_product p n m) ((length table - i) / n) (drop i table) ≡ matrix_product p n m (take n (drop i table)) ++ later
+    -- one group less is left
+    next : each_group n (matrix_product p n m) (length table / n - k) (drop (k * n) table) ≡ matrix_product p n m (take n (drop (k * n) table)) ++ later
     unfolding later each_group
     next =
-        ap (λ k. each_group n (matrix_product p n m) k (drop i table)) (Nat.div-eq-sub-div positive enough ∙ add-one _)
-        ∙ ap₂ (λ k xs. matrix_product p n m (take n (drop i table)) ++ each_group n (matrix_product p n m) (k / n) xs) (sym left) (drop-drop n i table)
+        let left : length table / n - k ≡ suc (length table / n - (k + 1)) = omega arith in
+        ap (λ j. each_group n (matrix_product p n m) j (drop (k * n) table)) left
+        ∙ ap (λ xs. matrix_product p n m (take n (drop (k * n) table)) ++ each_group n (matrix_product p n m) (length table / n - (k + 1)) xs)
+        (drop-drop n (k * n) table ∙ ap (λ j. drop j table) (sym (next_group n k)))
 
-    front : take (i + n) (put_mid i (i + n - i) out z) ≡ take i out ++ z
+    front : take ((k + 1) * n) (put_mid (k * n) (k * n + n - k * n) out z) ≡ take (k * n) out ++ z
     front =
-        ap (take (i + n)) (sym (append_assoc (take i out) z (post_of i (i + n - i) out)))
-        ∙ take_at (take i out ++ z) (post_of i (i + n - i) out) (i + n)
-        (length-append (take i out) z ∙ ap₂ ◌+◌ (length-take-le i out (omega (arith, g.lengths))) product_length)
+        ap (take ((k + 1) * n)) (sym (append_assoc (take (k * n) out) z (post_of (k * n) (k * n + n - k * n) out)))
+        ∙ take_at (take (k * n) out ++ z) (post_of (k * n) (k * n + n - k * n) out) ((k + 1) * n)
+        (length-append (take (k * n) out) z ∙ ap₂ ◌+◌ (length-take-le (k * n) out (omega (arith, output_ends))) product_length ∙ sym (next_group n k))
 
-    pub turn : Progress p n m table (put_mid i (i + n - i) out z) (i + n)
+    pub turn : Progress p n m table (put_mid (k * n) (k * n + n - k * n) out z) (k + 1)
     unfolding later
     turn =
         record {
-          within = group_ends;
-          whole = ap (λ k. k % n) left ∙ sym (Nat.mod-eq-sub-mod enough) ∙ g.whole;
-          lengths = same_len_mid i (i + n - i) out z (product_length ∙ sym output_part) ∙ g.lengths;
+          lengths = same_len_mid (k * n) (k * n + n - k * n) out z (product_length ∙ sym output_part) ∙ g.lengths;
           image =
               ap (λ xs. xs ++ later) front
-              ∙ append_assoc (take i out) z later
-              ∙ ap (λ xs. take i out ++ xs) (ap (λ xs. xs ++ later) product ∙ sym next)
+              ∙ append_assoc (take (k * n) out) z later
+              ∙ ap (λ xs. take (k * n) out ++ xs) (ap (λ xs. xs ++ later) product ∙ sym next)
               ∙ g.image;
         }
 
 pub starts : (p n : ℕ) (m table out : List ℕ) → table_number p n table out ≡ 0 → Progress p n m table out 0
-starts p n m table out h =
-    let c : Convertible p n table out = table_given p n table out h in
-    record { within = omega arith; whole = rw Nat.sub-zero c.sizes.groups; lengths = c.sizes.lengths; image = rw Nat.sub-zero refl }
+starts p n m table out h = record { lengths = (table_given p n table out h).sizes.lengths; image = rw (Nat.zero-mul, Nat.sub-zero) refl }
 
-pub done : (p n : ℕ) (m table out : List ℕ) (i : ℕ) → Progress p n m table out i → length table ≤ i
+pub done : (p n : ℕ) (m table out₀ out : List ℕ) (k : ℕ) → table_number p n table out₀ ≡ 0 → Progress p n m table out k → length table / n ≤ k
     → out ≡ each_group n (matrix_product p n m) (length table / n) table
 unfolding each_group
-done p n m table out i g l =
-    let none_left : length table - i ≡ 0 = omega arith in
-    let no_group : (length table - i) / n ≡ 0 = ap (λ k. k / n) none_left ∙ Nat.zero-div n in
+done p n m table out₀ out k h g l =
+    let all : length out ≤ k * n = omega (arith, g.lengths, whole_groups (table_given p n table out₀ h), Nat.mul-le-mul_right n l) in
+    let none : length table / n - k ≡ 0 = omega arith in
     sym (append-nil out)
-    ∙ sym (ap₂ (λ xs k. xs ++ each_group n (matrix_product p n m) k (drop i table)) (take_all i out (omega (arith, g.lengths))) no_group)
+    ∙ sym (ap₂ (λ xs j. xs ++ each_group n (matrix_product p n m) j (drop (k * n) table)) (take_all (k * n) out all) none)
     ∙ g.image
-
-pub keeps_length : (p n : ℕ) (m table out₀ out : List ℕ) (i : ℕ) → table_number p n table out₀ ≡ 0 → Progress p n m table out i
-    → length out ≡ length out₀
-keeps_length p n m table out₀ out i h g = g.lengths ∙ sym (table_given p n table out₀ h).sizes.lengths
 
 -- the matrix of the powers of S, and the divisor q that is p
 module _ (p n : ℕ) (t s a b m : List ℕ) (big : 2 ≤ p) (wt : Words p n t) (ws : Words p n s) (e : a ≡ padded t) (f : b ≡ padded s)
