@@ -1,6 +1,6 @@
 -- What follows for a call to which no refusal applies.
 --   Accepted p n xss out   p and n are in range, each list of xss is n words below p, and out has n words
-use mathlib.Core.Path.{◌≡◌}
+use mathlib.Core.Path.{◌≡◌, sym}
 use mathlib.Core.Bool.{true}
 use mathlib.Core.List.{List, ◌∷◌}
 use Prim.Native.Nat.{ℕ, ◌≤◌}
@@ -21,10 +21,9 @@ pub record Accepted (p n : ℕ) (xss : List (List ℕ)) (out : List ℕ) : Type 
   pub words : (xs : List ℕ) → Member xs xss → Words p n xs
   pub size : length out ≡ n
 
-pub accepted : (p n : ℕ) (xss : List (List ℕ)) (out : List ℕ) → residue_number p n xss out ≡ 0 → Accepted p n xss out
-unfolding residue_number
+pub accepted : (p n : ℕ) (xss : List (List ℕ)) (out : List ℕ) → 0 ≡ residue_number p n xss out → Accepted p n xss out
 accepted p n xss out e =
-    let sent = (sent_given p n (out ∷ xss) xss 0 e).0 in
+    let sent = (sent_given p n (out ∷ xss) xss 0 (sym e)).0 in
     record {
       big = sent.prime.0;
       small = sent.small;

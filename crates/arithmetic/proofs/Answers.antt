@@ -10,18 +10,15 @@ use Rattle.quotient.specs.Residue.{product, power, substitute}
 use Rattle.quotient.proofs.Operations.{product_words, power_words, substitute_words}
 use Rattle.array.proofs.Words.{words_length, words_up}
 use Rattle.array.specs.Array.{padded, Holds}
-use Rattle.refusal.specs.Refusal.{refuse_sent}
-use Rattle.arithmetic.specs.Calls.{residue_number}
+use Rattle.refusal.specs.Refusal.{written}
+use Rattle.refusal.proofs.Written.{output_new}
+use Rattle.arithmetic.specs.Calls.{residue_number, product_output, power_output, substitute_output}
 use Rattle.array.proofs.Padded.{holds_is, front_is}
 use Rattle.arithmetic.proofs.Accepted.{Accepted, accepted}
 
-pub number_is : (p n r : ℕ) (xss : List (List ℕ)) (out : List ℕ) → r ≡ refuse_sent p n (out ∷ xss) xss 0 → r ≡ residue_number p n xss out
-unfolding residue_number
-number_is p n r xss out e = e
-
 -- the lists that a call reads, and the one that it writes
 
-module _ (p n : ℕ) (t : List ℕ) (others : List (List ℕ)) (out : List ℕ) (e : residue_number p n (t ∷ others) out ≡ 0) where
+module _ (p n : ℕ) (t : List ℕ) (others : List (List ℕ)) (out : List ℕ) (e : 0 ≡ residue_number p n (t ∷ others) out) where
   given : Accepted p n (t ∷ others) out
   given = accepted p n (t ∷ others) out e
 
@@ -45,10 +42,10 @@ module _ (p n : ℕ) (t : List ℕ) (others : List (List ℕ)) (out : List ℕ) 
     stores : Holds word_bound (length out) r
     stores = subst (λ k. Holds word_bound k r) (sym given.size) (holds_is f (words_up (omega (arith, given.small)) w))
 
-    stored : (out' : List ℕ) → out' ≡ take (length out) r → out' ≡ s
-    stored out' g = g ∙ ap (λ k. take k r) given.size ∙ front_is f w
+    stored : (out' : List ℕ) → out' ≡ take (length out) r → out' ≡ written (residue_number p n (t ∷ others) out) s out
+    stored out' g = output_new 0 (residue_number p n (t ∷ others) out) s out out' e refl (g ∙ ap (λ k. take k r) given.size ∙ front_is f w)
 
-module _ (p n : ℕ) (t u : List ℕ) (others : List (List ℕ)) (out : List ℕ) (e : residue_number p n (t ∷ u ∷ others) out ≡ 0) where
+module _ (p n : ℕ) (t u : List ℕ) (others : List (List ℕ)) (out : List ℕ) (e : 0 ≡ residue_number p n (t ∷ u ∷ others) out) where
   second_words : Words p n u
   second_words = (accepted p n (t ∷ u ∷ others) out e).words u (inr (inl refl))
 
@@ -58,7 +55,7 @@ module _ (p n : ℕ) (t u : List ℕ) (others : List (List ℕ)) (out : List ℕ
   pub second_holds : (b : List ℕ) → b ≡ padded u → Holds p n b
   second_holds b f = holds_is f second_words
 
-module _ (p n : ℕ) (t u : List ℕ) (out : List ℕ) (e : residue_number p n (t ∷ u ∷ []) out ≡ 0) where
+module _ (p n : ℕ) (t u : List ℕ) (out : List ℕ) (e : 0 ≡ residue_number p n (t ∷ u ∷ []) out) where
   module _ (x : ℕ) (a b r : List ℕ) (f : a ≡ padded t) (g : b ≡ padded u) (k : r ≡ padded (power p (take n a) (take n b) x)) where
     abbrev wt : Words p n t
     wt = first_words p n t (u ∷ []) out e
@@ -75,10 +72,10 @@ module _ (p n : ℕ) (t u : List ℕ) (out : List ℕ) (e : residue_number p n (
     pub power_stores : Holds word_bound (length out) r
     power_stores = stores p n t (u ∷ []) out e (power p t u x) r power_result power_is_words
 
-    pub power_stored : (out' : List ℕ) → out' ≡ take (length out) r → out' ≡ power p t u x
+    pub power_stored : (out' : List ℕ) → out' ≡ take (length out) r → out' ≡ power_output p n t u x out
     power_stored = stored p n t (u ∷ []) out e (power p t u x) r power_result power_is_words
 
-module _ (p n : ℕ) (t u v : List ℕ) (out : List ℕ) (e : residue_number p n (t ∷ u ∷ v ∷ []) out ≡ 0) where
+module _ (p n : ℕ) (t u v : List ℕ) (out : List ℕ) (e : 0 ≡ residue_number p n (t ∷ u ∷ v ∷ []) out) where
   third_words : Words p n v
   third_words = (accepted p n (t ∷ u ∷ v ∷ []) out e).words v (inr (inr (inl refl)))
 
@@ -106,19 +103,19 @@ module _ (p n : ℕ) (t u v : List ℕ) (out : List ℕ) (e : residue_number p n
       result_stores : Holds word_bound (length out) r
       result_stores = stores p n t (u ∷ v ∷ []) out e (F t u v) r result w
 
-      result_stored : (out' : List ℕ) → out' ≡ take (length out) r → out' ≡ F t u v
+      result_stored : (out' : List ℕ) → out' ≡ take (length out) r → out' ≡ written (residue_number p n (t ∷ u ∷ v ∷ []) out) (F t u v) out
       result_stored = stored p n t (u ∷ v ∷ []) out e (F t u v) r result w
 
     module _ (k : r ≡ padded (product p (take n a) (take n b) (take n c))) where
       pub product_stores : Holds word_bound (length out) r
       product_stores = result_stores (product p) (product_words big first u third_words) k
 
-      pub product_stored : (out' : List ℕ) → out' ≡ take (length out) r → out' ≡ product p t u v
+      pub product_stored : (out' : List ℕ) → out' ≡ take (length out) r → out' ≡ product_output p n t u v out
       product_stored = result_stored (product p) (product_words big first u third_words) k
 
     module _ (k : r ≡ padded (substitute p (take n a) (take n b) (take n c))) where
       pub substitute_stores : Holds word_bound (length out) r
       substitute_stores = result_stores (substitute p) (substitute_words big first second third_words) k
 
-      pub substitute_stored : (out' : List ℕ) → out' ≡ take (length out) r → out' ≡ substitute p t u v
+      pub substitute_stored : (out' : List ℕ) → out' ≡ take (length out) r → out' ≡ substitute_output p n t u v out
       substitute_stored = result_stored (substitute p) (substitute_words big first second third_words) k

@@ -7,7 +7,7 @@ use Rattle.std.specs.Prelude.{List, [], ◌∷◌, ℕ}
 use Rattle.refusal.specs.Refusal.{refuse_sent, written}
 use Rattle.quotient.specs.Residue.{product, power, substitute}
 
-unfoldable pub residue_number : ℕ → ℕ → List (List ℕ) → List ℕ → ℕ
+abbrev pub residue_number : ℕ → ℕ → List (List ℕ) → List ℕ → ℕ
 residue_number p n xss out = refuse_sent p n (out ∷ xss) xss 0
 
 abbrev pub substitute_number : ℕ → ℕ → List ℕ → List ℕ → List ℕ → List ℕ → ℕ

@@ -1,79 +1,74 @@
 // The public calls on residues: lists of words are lent, nothing is required, and each refusal has its number. On a refusal the list lent
 // for the output is as found.
+// The lists that a call reads have one lifetime, since they are tested in one array.
+// `product` and `substitute` differ in one name: a helper that took the operation as a closure
+// would state that closure's contract beside its own, and neither call would be shorter.
 ghost use Rattle.std.specs.Prelude.{◌≡◌};
-ghost use Rattle.quotient.specs.Residue.{product as product_of, power as power_of, substitute as substitute_of};
+ghost use Rattle.refusal.specs.Number.{number_of};
 ghost use Rattle.arithmetic.specs.Calls.{substitute_number, substitute_output, product_number, product_output, power_number, power_output};
 
-use crate::number::{of_three, of_two};
 use array::Word;
 use array::copy::{load, store};
+use refusal::Refusal;
+use refusal::sent::sent;
 use residue::ring;
 
-// u·v modulo T, where no refusal applies.
-fn write_product(p: u32, n: u32, t: &[Word], u: &[Word], v: &[Word], out: &mut [Word])
-    requires { product_number p n t.now u.now v.now out.old ≡ 0 }
-    ensures { out.new ≡ product_of p t.now u.now v.now }
+// u·v modulo T, into out.
+pub fn product<'a>(
+    p: u32,
+    n: u32,
+    t: &'a [Word],
+    u: &'a [Word],
+    v: &'a [Word],
+    out: &mut [Word],
+) -> Result<(), Refusal>
+    ensures value { number_of result ≡ product_number p n t.now u.now v.now out.old }
+    ensures out_after { out.new ≡ product_output p n t.now u.now v.now out.old }
 {
+    sent(p, n, &[out, t, u, v], &[t, u, v])?;
     store(
         &ring::product(p as u64, n as usize, &load(t), &load(u), &load(v)),
         out,
     );
+    Ok(())
 }
 
-// u·v modulo T, into out.
-pub fn product(p: u32, n: u32, t: &[Word], u: &[Word], v: &[Word], out: &mut [Word]) -> u32
-    ensures value { result ≡ product_number p n t.now u.now v.now out.old }
-    ensures out_after { out.new ≡ product_output p n t.now u.now v.now out.old }
+// u^k modulo T, into out.
+pub fn power<'a>(
+    p: u32,
+    n: u32,
+    t: &'a [Word],
+    u: &'a [Word],
+    k: u64,
+    out: &mut [Word],
+) -> Result<(), Refusal>
+    ensures value { number_of result ≡ power_number p n t.now u.now out.old }
+    ensures out_after { out.new ≡ power_output p n t.now u.now k out.old }
 {
-    let refusal = of_three(p, n, t, u, v, out);
-    if refusal == 0 {
-        write_product(p, n, t, u, v, out);
-    }
-    refusal
-}
-
-// u^k modulo T, where no refusal applies to t and u.
-fn write_power(p: u32, n: u32, t: &[Word], u: &[Word], k: u64, out: &mut [Word])
-    requires { power_number p n t.now u.now out.old ≡ 0 }
-    ensures { out.new ≡ power_of p t.now u.now k }
-{
+    sent(p, n, &[out, t, u], &[t, u])?;
     store(
         &ring::power(p as u64, n as usize, &load(t), &load(u), k),
         out,
     );
+    Ok(())
 }
 
-// u^k modulo T, into out.
-pub fn power(p: u32, n: u32, t: &[Word], u: &[Word], k: u64, out: &mut [Word]) -> u32
-    ensures value { result ≡ power_number p n t.now u.now out.old }
-    ensures out_after { out.new ≡ power_output p n t.now u.now k out.old }
+// u(S) modulo T, into out.
+pub fn substitute<'a>(
+    p: u32,
+    n: u32,
+    t: &'a [Word],
+    s: &'a [Word],
+    u: &'a [Word],
+    out: &mut [Word],
+) -> Result<(), Refusal>
+    ensures value { number_of result ≡ substitute_number p n t.now s.now u.now out.old }
+    ensures out_after { out.new ≡ substitute_output p n t.now s.now u.now out.old }
 {
-    let refusal = of_two(p, n, t, u, out);
-    if refusal == 0 {
-        write_power(p, n, t, u, k, out);
-    }
-    refusal
-}
-
-// u(S) modulo T, where no refusal applies.
-fn write_substitute(p: u32, n: u32, t: &[Word], s: &[Word], u: &[Word], out: &mut [Word])
-    requires { substitute_number p n t.now s.now u.now out.old ≡ 0 }
-    ensures { out.new ≡ substitute_of p t.now s.now u.now }
-{
+    sent(p, n, &[out, t, s, u], &[t, s, u])?;
     store(
         &ring::substitute(p as u64, n as usize, &load(t), &load(s), &load(u)),
         out,
     );
-}
-
-// u(S) modulo T, into out.
-pub fn substitute(p: u32, n: u32, t: &[Word], s: &[Word], u: &[Word], out: &mut [Word]) -> u32
-    ensures value { result ≡ substitute_number p n t.now s.now u.now out.old }
-    ensures out_after { out.new ≡ substitute_output p n t.now s.now u.now out.old }
-{
-    let refusal = of_three(p, n, t, s, u, out);
-    if refusal == 0 {
-        write_substitute(p, n, t, s, u, out);
-    }
-    refusal
+    Ok(())
 }

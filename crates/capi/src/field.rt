@@ -9,6 +9,7 @@ ghost use Rattle.sheet.specs.Sheet.{sheet_length, sheet_number, sheet_output};
 ghost use Rattle.arithmetic.specs.Calls.{substitute_number, substitute_output, product_number, product_output, power_number, power_output};
 
 use array::Word;
+use refusal::number_of;
 
 // Whether T has no monic divisor of degree 1 to n − 1, so that every residue but 0 has an inverse: 0, or 1, 2, 3, 4, 6.
 #[unsafe(no_mangle)]
@@ -140,7 +141,7 @@ pub extern "C" fn yokebean_substitute(
     ensures value { result ≡ substitute_number p n t.now s.now u.now out.old }
     ensures out_after { out.new ≡ substitute_output p n t.now s.now u.now out.old }
 {
-    arithmetic::call::substitute(p, n, t, s, u, out)
+    number_of(arithmetic::call::substitute(p, n, t, s, u, out))
 }
 
 // out := u·v modulo T: 0, or 1 to 4.
@@ -156,7 +157,7 @@ pub extern "C" fn yokebean_product(
     ensures value { result ≡ product_number p n t.now u.now v.now out.old }
     ensures out_after { out.new ≡ product_output p n t.now u.now v.now out.old }
 {
-    arithmetic::call::product(p, n, t, u, v, out)
+    number_of(arithmetic::call::product(p, n, t, u, v, out))
 }
 
 // out := u^k modulo T: 0, or 1 to 4.
@@ -172,5 +173,5 @@ pub extern "C" fn yokebean_power(
     ensures value { result ≡ power_number p n t.now u.now out.old }
     ensures out_after { out.new ≡ power_output p n t.now u.now k out.old }
 {
-    arithmetic::call::power(p, n, t, u, k, out)
+    number_of(arithmetic::call::power(p, n, t, u, k, out))
 }

@@ -1,0 +1,21 @@
+-- `power`: where no refusal applies, the arrays hold the lists, and the result fits the list lent.
+use Rattle.arithmetic.proofs.Answers.{first_short, second_short, output_short, in_range, first_holds, second_holds, power_stores, power_stored}
+use Rattle.arithmetic.proofs.call.power.Goals as goal
+
+pub load-requires : goal.load-requires
+load-requires c = search (first_short, second_short, c.in_ok-sent.ensures)
+
+pub load-requires-2 : goal.load-requires-2
+load-requires-2 c = search (first_short, second_short, c.in_ok-sent.ensures)
+
+pub power-requires-clause-le_p : goal.power-requires-clause-le_p
+power-requires-clause-le_p c = search (in_range, c.in_ok-sent.ensures)
+
+pub power-requires-clause-holds : goal.power-requires-clause-holds
+power-requires-clause-holds c = (search (first_holds, second_holds, c.in_ok-sent.ensures), search (first_holds, second_holds, c.in_ok-sent.ensures))
+
+pub store-requires : goal.store-requires
+store-requires c = (search (output_short, c.in_ok-sent.ensures), search (power_stores, c.in_ok-sent.ensures))
+
+pub returns-clause-out_after : goal.returns-clause-out_after
+returns-clause-out_after c = search (power_stored, c.in_ok-sent.ensures)
