@@ -1,9 +1,11 @@
 // The finder on arrays of 16 words: Algorithm 2.1 with the choices of document 01, normalised as document 02, S-6, says, where n divides p − 1; where n is a power of p, Algorithm 4.1
 // with the choice of S-7.
-ghost use Rattle.std.specs.Prelude.{true, ◌≡◌, ◌^◌, ◌≤◌, ◌<◌, length, take};
+ghost use Rattle.std.specs.Prelude.{true, ◌≡◌, ◌^◌, ◌≤◌, ◌<◌, length, take, IfOk};
 ghost use Rattle.algebra.specs.Prime.{Prime};
 ghost use Rattle.array.specs.Array.{Holds};
+ghost use Rattle.refusal.specs.Number.{number_of};
 ghost use Rattle.finder.specs.Construct.{Size, Choices, FoundPair};
+ghost use Rattle.finder.specs.Finder.{refuse_find};
 ghost use Rattle.roots.specs.Roots.{zeta as zeta_of, Admissible};
 ghost use Rattle.frobenius.specs.Kernel.{EigenvectorFound};
 
@@ -11,16 +13,16 @@ use frobenius::eigenvector::{Normalised, eigenvector};
 use frobenius::image::image;
 use frobenius::scaling::scaling;
 use matrix::powers::powers;
+use refusal::Refusal;
 use roots::radicand::radicand;
 use roots::root::prepare;
 use roots::unity::zeta;
 use tower::exponent::exponent;
 use tower::generator::generator;
 
-// The number 5, 6 or 7 of a refusal, or 0 with S and R.
+// S and R.
 #[derive(Clone, Copy)]
-pub struct Construction {
-    pub number: u32,
+pub struct Pair {
     pub forward: [u64; 16],
     pub backward: [u64; 16],
 }
@@ -36,25 +38,25 @@ fn between(
     alpha1: &[u64; 16],
     alpha2: &[u64; 16],
     m: &mut [u64; 256],
-) -> Construction
+) -> Pair
     requires size { Size p n }
     requires holds { Holds p n t1.now × Holds p n t2.now }
-    requires m_len { (length m.old ≡ 256) × (a < p) }
+    requires matrix_size { length m.old ≡ 256 }
+    requires constant_below { a < p }
     requires choices { Choices p n (take n t1.now) (take n t2.now) alpha1.now alpha2.now }
-    ensures { FoundPair p n (take n t1.now) (take n t2.now) result.number result.forward result.backward }
+    ensures { FoundPair p n (take n t1.now) (take n t2.now) 0 result.forward result.backward }
 {
     let mut w = [0; 256];
     powers(p, n, t1, alpha1, m);
     powers(p, n, t2, alpha2, &mut w);
-    Construction {
-        number: 0,
+    Pair {
         forward: image(p, n, a, t1, m, &w),
         backward: image(p, n, a, t2, &w, m),
     }
 }
 
 // The pair from an eigenvector of each model: α1 and α2 are their scalings whose n-th power is a, which both models have in common.
-fn pair(
+fn from_scalings(
     p: u64,
     n: usize,
     z: u64,
@@ -63,14 +65,14 @@ fn pair(
     first: Normalised,
     second: Normalised,
     m: &mut [u64; 256],
-) -> Construction
+) -> Pair
     requires admissible { Admissible p n }
-    requires z_lt_p { (z < p) × (z ≡ zeta_of p n) }
+    requires zeta { (z < p) × (z ≡ zeta_of p n) }
     requires holds { Holds p n t1.now × Holds p n t2.now }
-    requires m_len { length m.old ≡ 256 }
-    requires eigenvector_found { EigenvectorFound p n (take n t1.now) z true first.vector first.constant }
-    requires eigenvector_found_2 { EigenvectorFound p n (take n t2.now) z true second.vector second.constant }
-    ensures { FoundPair p n (take n t1.now) (take n t2.now) result.number result.forward result.backward }
+    requires matrix_size { length m.old ≡ 256 }
+    requires first_found { EigenvectorFound p n (take n t1.now) z true first.vector first.constant }
+    requires second_found { EigenvectorFound p n (take n t2.now) z true second.vector second.constant }
+    ensures { FoundPair p n (take n t1.now) (take n t2.now) 0 result.forward result.backward }
 {
     let a = radicand(p, n as u64, z);
     let by = prepare(p, n as u64, a);
@@ -79,70 +81,62 @@ fn pair(
     between(p, n, a, t1, t2, &alpha1, &alpha2, m)
 }
 
-// A refusal.
-fn refusal(number: u32) -> Construction
-    ensures { result.number ≡ number }
-{
-    Construction {
-        number: number,
-        forward: [0; 16],
-        backward: [0; 16],
-    }
-}
-
 // S and R for the two models, or the refusal of a modulus with a monic divisor of degree 1 to n − 1. One array serves both kernels and a matrix of powers.
-fn from_eigenvectors(p: u64, n: usize, t1: &[u64; 16], t2: &[u64; 16]) -> Construction
+fn from_eigenvectors(p: u64, n: usize, t1: &[u64; 16], t2: &[u64; 16]) -> Result<Pair, Refusal>
     requires admissible { Admissible p n }
     requires holds { Holds p n t1.now × Holds p n t2.now }
-    ensures { FoundPair p n (take n t1.now) (take n t2.now) result.number result.forward result.backward }
+    ensures number { number_of result ≡ refuse_find p n (take n t1.now) (take n t2.now) }
+    ensures pair { IfOk result (λ pair. FoundPair p n (take n t1.now) (take n t2.now) 0 pair.forward pair.backward) }
 {
     let mut m = [0; 256];
     let z = zeta(p, n as u64);
     let first = eigenvector(p, n, z, t1, &mut m);
     if !first.found {
-        return refusal(6);
+        return Err(Refusal::FirstModulus);
     }
     let second = eigenvector(p, n, z, t2, &mut m);
     if !second.found {
-        return refusal(7);
+        return Err(Refusal::SecondModulus);
     }
-    pair(p, n, z, t1, t2, first, second, &mut m)
+    Ok(from_scalings(p, n, z, t1, t2, first, second, &mut m))
 }
 
 // The same from the rounds of Algorithm 4.1, where n = p^k.
-fn from_rounds(p: u64, n: usize, k: u64, t1: &[u64; 16], t2: &[u64; 16]) -> Construction
+fn from_rounds(p: u64, n: usize, k: u64, t1: &[u64; 16], t2: &[u64; 16]) -> Result<Pair, Refusal>
     requires size { Size p n }
-    requires le_k { (1 ≤ k) × (n ≡ p ^ k) }
+    requires exponent { (1 ≤ k) × (n ≡ p ^ k) }
     requires holds { Holds p n t1.now × Holds p n t2.now }
-    ensures { FoundPair p n (take n t1.now) (take n t2.now) result.number result.forward result.backward }
+    ensures number { number_of result ≡ refuse_find p n (take n t1.now) (take n t2.now) }
+    ensures pair { IfOk result (λ pair. FoundPair p n (take n t1.now) (take n t2.now) 0 pair.forward pair.backward) }
 {
     let first = generator(p, n, k, t1);
     if !first.found {
-        return refusal(6);
+        return Err(Refusal::FirstModulus);
     }
     let second = generator(p, n, k, t2);
     if !second.found {
-        return refusal(7);
+        return Err(Refusal::SecondModulus);
     }
     let mut m = [0; 256];
     let alpha1 = first.vector;
     let alpha2 = second.vector;
-    between(p, n, 0, t1, t2, &alpha1, &alpha2, &mut m)
+    Ok(between(p, n, 0, t1, t2, &alpha1, &alpha2, &mut m))
 }
 
 // The same by the method for p and n, or the refusal of an n that neither divides p − 1 nor is a power of p.
-pub fn construct(p: u64, n: usize, t1: &[u64; 16], t2: &[u64; 16]) -> Construction
+pub fn construct(p: u64, n: usize, t1: &[u64; 16], t2: &[u64; 16]) -> Result<Pair, Refusal>
     requires prime { Prime p }
-    requires p_bound { (p ≤ 2 ^ 20) × (1 ≤ n) × (n ≤ 16) }
+    requires sizes { (p ≤ 2 ^ 20) × (1 ≤ n) × (n ≤ 16) }
     requires holds { Holds p n t1.now × Holds p n t2.now }
-    ensures { FoundPair p n (take n t1.now) (take n t2.now) result.number result.forward result.backward }
+    ensures number { number_of result ≡ refuse_find p n (take n t1.now) (take n t2.now) }
+    ensures pair { IfOk result (λ pair. FoundPair p n (take n t1.now) (take n t2.now) 0 pair.forward pair.backward) }
 {
     if (p - 1) % (n as u64) == 0 {
         return from_eigenvectors(p, n, t1, t2);
     }
     let k = exponent(p, n as u64);
     if k == 0 {
-        return refusal(5);
+        return Err(Refusal::Method);
     }
     from_rounds(p, n, k, t1, t2)
 }

@@ -15,7 +15,7 @@ use Rattle.frobenius.specs.Image.{Image}
 use Rattle.finder.specs.Construct.{Size, Choices, FoundPair}
 use Rattle.finder.specs.Finder.{generator, find_s}
 use Rattle.finder.proofs.Values.{ModelLaws, model_laws, pair_laws}
-use Rattle.finder.proofs.construct.Numbers.{number_from_lem}
+use Rattle.finder.proofs.construct.Numbers.{number_from}
 
 module _ (p n : ℕ) (t1 t2 : List ℕ) (h : Size p n) (h1 : Holds p n t1) (h2 : Holds p n t2) (x y : List ℕ) (e : Choices p n (take n t1) (take n t2) x y) where
   abbrev T1 : List ℕ
@@ -65,7 +65,7 @@ module _ (p n : ℕ) (t1 t2 : List ℕ) (h : Size p n) (h1 : Holds p n t1) (h2 :
     unfolding find_s
     pair_is s r is ir =
         record {
-          number_is = sym (number_from_lem p n T1 T2 h e.irreducible1 e.irreducible2);
+          number_is = sym (number_from p n T1 T2 h e.irreducible1 e.irreducible2);
           forward_is = λ _. is.image_is (take n x) T2 (take n y) alpha1_holds.words powers1 independent1 h2.words alpha2_holds.words powers2
               ∙ ap₂ (λ u v. padded (substitute p T2 u (express p T1 v))) front2 front1;
           backward_is = λ _. ir.image_is (take n y) T1 (take n x) alpha2_holds.words powers2 independent2 h1.words alpha1_holds.words powers1

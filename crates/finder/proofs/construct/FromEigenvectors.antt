@@ -13,8 +13,8 @@ use Rattle.roots.proofs.Zeta as Zeta
 use Rattle.galois.specs.Eigenvector.{alpha}
 use Rattle.galois.proofs.KernelDecides.{EigenvectorLaws, eigenvector_laws}
 use Rattle.frobenius.specs.Kernel.{EigenvectorFound}
-use Rattle.finder.specs.Construct.{Choices, FoundPair}
-use Rattle.finder.specs.Finder.{generator}
+use Rattle.finder.specs.Construct.{Choices}
+use Rattle.finder.specs.Finder.{generator, refuse_find}
 use Rattle.finder.proofs.Eigenvectors.{generator_first}
 use Rattle.finder.proofs.construct.Numbers.{first_size, divisor_of, six, seven}
 
@@ -33,11 +33,10 @@ module _ (p n : ℕ) (h : Admissible p n) where
 -- a modulus without an eigenvector has a proper divisor
 
 module _ (p n z : ℕ) (t1 t2 : List ℕ) (h : Admissible p n) (f1 : Bool) (x : List ℕ) (a : ℕ) (answer1 : EigenvectorFound p n t1 z f1 x a) where
-  pub refused_first : not f1 ≡ true → (number : ℕ) (s r : List ℕ) → number ≡ 6 → FoundPair p n t1 t2 number s r
+  pub refused_first : not f1 ≡ true → 6 ≡ refuse_find p n t1 t2
   refused_first = six p n t1 t2 (first_size p n h) f1 answer1.decides
 
-  pub refused_second : (f2 : Bool) (y : List ℕ) (b : ℕ) → EigenvectorFound p n t2 z f2 y b → not f1 ≡ false → not f2 ≡ true
-      → (number : ℕ) (s r : List ℕ) → number ≡ 7 → FoundPair p n t1 t2 number s r
+  pub refused_second : (f2 : Bool) (y : List ℕ) (b : ℕ) → EigenvectorFound p n t2 z f2 y b → not f1 ≡ false → not f2 ≡ true → 7 ≡ refuse_find p n t1 t2
   refused_second f2 y b answer2 = seven p n t1 t2 (first_size p n h) f1 answer1.decides f2 answer2.decides
 
 -- an eigenvector that was found

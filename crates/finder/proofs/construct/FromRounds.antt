@@ -6,16 +6,17 @@ use Prim.Native.Nat.{ℕ, ◌^◌, ◌≤◌}
 use borrow.Author.Tests.{not-false}
 use Rattle.array.specs.Array.{padded}
 use Rattle.tower.specs.Generator.{GeneratorFound}
-use Rattle.finder.specs.Construct.{Size, Choices, FoundPair}
+use Rattle.finder.specs.Construct.{Size, Choices}
+use Rattle.finder.specs.Finder.{refuse_find}
 use Rattle.finder.proofs.Towers.{generator_second}
 use Rattle.finder.proofs.construct.Numbers.{divisor_of, six, seven}
 
 module _ (p n k : ℕ) (t1 t2 : List ℕ) (h : Size p n) (f1 : Bool) (x : List ℕ) (answer1 : GeneratorFound p n t1 k f1 x) where
-  pub unsolved_first : not f1 ≡ true → (number : ℕ) (s r : List ℕ) → number ≡ 6 → FoundPair p n t1 t2 number s r
+  pub unsolved_first : not f1 ≡ true → 6 ≡ refuse_find p n t1 t2
   unsolved_first = six p n t1 t2 h f1 answer1.decides
 
   module _ (f2 : Bool) (y : List ℕ) (answer2 : GeneratorFound p n t2 k f2 y) (some1 : not f1 ≡ false) where
-    pub unsolved_second : not f2 ≡ true → (number : ℕ) (s r : List ℕ) → number ≡ 7 → FoundPair p n t1 t2 number s r
+    pub unsolved_second : not f2 ≡ true → 7 ≡ refuse_find p n t1 t2
     unsolved_second = seven p n t1 t2 h f1 answer1.decides f2 answer2.decides some1
 
     pub rounds_choices : 1 ≤ k → n ≡ p ^ k → not f2 ≡ false → Choices p n t1 t2 x y

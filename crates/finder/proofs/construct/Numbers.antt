@@ -4,7 +4,6 @@ use mathlib.Core.Bool.{Bool, true, false, not}
 use mathlib.Core.List.{List}
 use mathlib.Core.Logic.{inl, inr}
 use Prim.Native.Nat.{ℕ, ◌-◌, ◌%◌, ◌^◌, ◌≤◌}
-use native.Mathlib.Omega.{arith}
 use Rattle.algebra.specs.Prime.{Prime}
 use Rattle.quotient.specs.DivisorTest.{has_divisor}
 use Rattle.refusal.specs.Refusal.{refuse}
@@ -12,7 +11,7 @@ use Rattle.roots.specs.Roots.{Admissible}
 use Rattle.galois.specs.Tower.{exponent}
 use Rattle.galois.proofs.Exponent.{exponent_is}
 use Rattle.frobenius.proofs.KernelAnswer.{not-not}
-use Rattle.finder.specs.Construct.{Size, FoundPair}
+use Rattle.finder.specs.Construct.{Size}
 use Rattle.finder.specs.Finder.{refuse_find}
 use Rattle.finder.proofs.Findable.{findable-true, findable-false}
 
@@ -42,20 +41,16 @@ pub divisor_of : {f d : Bool} → f ≡ not d → d ≡ not f
 divisor_of {f} {d} e = sym (not-not d) ∙ ap not (sym e)
 
 module _ (p n : ℕ) (t1 t2 : List ℕ) where
-  pub number_from_lem : Size p n → {c d : Bool} → has_divisor p t1 ≡ c → has_divisor p t2 ≡ d → refuse_find p n t1 t2 ≡ refuse 6 c (refuse 7 d 0)
-  number_from_lem h e1 e2 = rw (findable-true p n h.prime.0 h.findable, e1, e2)
+  pub number_from : Size p n → {c d : Bool} → has_divisor p t1 ≡ c → has_divisor p t2 ≡ d → refuse_find p n t1 t2 ≡ refuse 6 c (refuse 7 d 0)
+  number_from h e1 e2 = rw (findable-true p n h.prime.0 h.findable, e1, e2)
 
-  refused : (number : ℕ) (s r : List ℕ) → number ≡ refuse_find p n t1 t2 → (number ≡ 0 → ⊥) → FoundPair p n t1 t2 number s r
-  refused number s r e other = record { number_is = e; forward_is = λ z. absurd (other z); backward_is = λ z. absurd (other z) }
-
-  pub refused_degree : ((p - 1) % n ≡ 0 → ⊥) → (k : ℕ) → k ≡ exponent p n → k ≡ 0 → (number : ℕ) (s r : List ℕ) → number ≡ 5 → FoundPair p n t1 t2 number s r
-  refused_degree other k ek z number s r e =
-      refused number s r (e ∙ sym (ap (λ b. refuse 5 (not b) (refuse 6 (has_divisor p t1) (refuse 7 (has_divisor p t2) 0))) (findable-false p n other (sym ek ∙ z)))) (λ o. omega arith)
+  pub refused_degree : ((p - 1) % n ≡ 0 → ⊥) → (k : ℕ) → k ≡ exponent p n → k ≡ 0 → 5 ≡ refuse_find p n t1 t2
+  refused_degree other k ek z =
+      sym (ap (λ b. refuse 5 (not b) (refuse 6 (has_divisor p t1) (refuse 7 (has_divisor p t2) 0))) (findable-false p n other (sym ek ∙ z)))
 
   module _ (h : Size p n) (f1 : Bool) (decides1 : f1 ≡ not (has_divisor p t1)) where
-    pub six : not f1 ≡ true → (number : ℕ) (s r : List ℕ) → number ≡ 6 → FoundPair p n t1 t2 number s r
-    six none number s r e = refused number s r (e ∙ sym (number_from_lem h (divisor_of decides1 ∙ none) refl)) (λ k. omega arith)
+    pub six : not f1 ≡ true → 6 ≡ refuse_find p n t1 t2
+    six none = sym (number_from h (divisor_of decides1 ∙ none) refl)
 
-    pub seven : (f2 : Bool) → f2 ≡ not (has_divisor p t2) → not f1 ≡ false → not f2 ≡ true → (number : ℕ) (s r : List ℕ) → number ≡ 7 → FoundPair p n t1 t2 number s r
-    seven f2 decides2 some none number s r e =
-        refused number s r (e ∙ sym (number_from_lem h (divisor_of decides1 ∙ some) (divisor_of decides2 ∙ none))) (λ k. omega arith)
+    pub seven : (f2 : Bool) → f2 ≡ not (has_divisor p t2) → not f1 ≡ false → not f2 ≡ true → 7 ≡ refuse_find p n t1 t2
+    seven f2 decides2 some none = sym (number_from h (divisor_of decides1 ∙ some) (divisor_of decides2 ∙ none))

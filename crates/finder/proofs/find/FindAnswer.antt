@@ -11,7 +11,10 @@ use Rattle.refusal.proofs.Order.{Sent, sent_given, given_sent, sent_stays}
 use Rattle.refusal.proofs.Models.{sent_models}
 use Rattle.array.proofs.Words.{words_length, words_up}
 use Rattle.array.specs.Array.{padded, Holds}
-use Rattle.refusal.proofs.Written.{output_new, output_old}
+use Rattle.refusal.specs.Number.{number}
+use Rattle.refusal.specs.declared.number.Refusal.{Refusal}
+use Rattle.refusal.proofs.Refused.{refused}
+use Rattle.refusal.proofs.Written.{output_old}
 use Rattle.array.proofs.Padded.{front_is, holds_is}
 use Rattle.finder.specs.Construct.{FoundPair}
 use Rattle.finder.specs.Finder.{find_s, find_r, refuse_find, find_number, find_output_s, find_output_r}
@@ -37,63 +40,59 @@ module _ (p n : ℕ) (t1 t2 : List ℕ) (m : Models p n t1 t2) where
   pub second_holds : (a : List ℕ) → a ≡ padded t2 → Holds p n a
   second_holds a e = holds_is e m.modulus2
 
-  pub answer_is : (a b : List ℕ) → a ≡ padded t1 → b ≡ padded t2 → (number : ℕ) (f g : List ℕ) → FoundPair p n (take n a) (take n b) number f g → FoundPair p n t1 t2 number f g
-  answer_is a b ea eb number f g found = subst₂ (λ x y. FoundPair p n x y number f g) (front_is ea m.modulus1) (front_is eb m.modulus2) found
+  -- what is said of the arrays is said of the lists
+  pub of_lists : (P : List ℕ → List ℕ → Type 0) (a b : List ℕ) → a ≡ padded t1 → b ≡ padded t2 → P (take n a) (take n b) → P t1 t2
+  of_lists P a b ea eb h = subst₂ P (front_is ea m.modulus1) (front_is eb m.modulus2) h
 
   -- the pair into the lent lists
-  module _ (number : ℕ) (f g : List ℕ) (found : FoundPair p n t1 t2 number f g) where
-    pub number_of : number ≡ refuse_find p n t1 t2
-    number_of = found.number_is
+  module _ (f g : List ℕ) (found : FoundPair p n t1 t2 0 f g) where
+    words : Words p n (find_s p n t1 t2) × Words p n (find_r p n t1 t2)
+    words =
+        let (findable, first, second) = none_apply p n t1 t2 (sym found.number_is) in
+        let laws : PairLaws p n t1 t2 = pair_laws p m.prime n m.degree.0 t1 t2 m.modulus1 m.modulus2 in
+        (laws.chosen_pair (laws.chosen (models_size p n t1 t2 m findable) (test_irreducible m.prime.0 m.modulus1 first) (test_irreducible m.prime.0 m.modulus2 second))).words
 
-    pub kept : (number ≡ 0 → ⊥) → (new old : List ℕ) → old ≡ written number new old
-    kept other new old = output_old number number new old refl other
+    module _ (out : List ℕ) (size : length out ≡ n) where
+      stores : (u w : List ℕ) → w ≡ padded u → Words p n u → Holds word_bound (length out) w
+      stores u w e wu = subst (λ k. Holds word_bound k w) (sym size) (holds_is e (words_up (omega (arith, m.small)) wu))
 
-    module _ (zero_is : number ≡ 0) where
-      words : Words p n (find_s p n t1 t2) × Words p n (find_r p n t1 t2)
-      words =
-          let (findable, first, second) = none_apply p n t1 t2 (sym found.number_is ∙ zero_is) in
-          let laws : PairLaws p n t1 t2 = pair_laws p m.prime n m.degree.0 t1 t2 m.modulus1 m.modulus2 in
-          (laws.chosen_pair (laws.chosen (models_size p n t1 t2 m findable) (test_irreducible m.prime.0 m.modulus1 first) (test_irreducible m.prime.0 m.modulus2 second))).words
+      stored : (u w : List ℕ) → w ≡ padded u → Words p n u → take (length out) w ≡ u
+      stored u w e wu = ap (λ k. take k w) size ∙ front_is e wu
 
-      module _ (out : List ℕ) (size : length out ≡ n) where
-        stores : (u w : List ℕ) → w ≡ padded u → Words p n u → Holds word_bound (length out) w
-        stores u w e wu = subst (λ k. Holds word_bound k w) (sym size) (holds_is e (words_up (omega (arith, m.small)) wu))
+      pub forward_stores : Holds word_bound (length out) f
+      forward_stores = stores (find_s p n t1 t2) f (found.forward_is refl) words.0
 
-        stored : (u w : List ℕ) → w ≡ padded u → Words p n u → (out' : List ℕ) → out' ≡ take (length out) w → out' ≡ written number u out
-        stored u w e wu out' h = output_new number number u out out' refl zero_is (h ∙ ap (λ k. take k w) size ∙ front_is e wu)
+      pub forward_stored : (out' : List ℕ) → out' ≡ take (length out) f → out' ≡ find_s p n t1 t2
+      forward_stored out' h = h ∙ stored (find_s p n t1 t2) f (found.forward_is refl) words.0
 
-        pub forward_stores : Holds word_bound (length out) f
-        forward_stores = stores (find_s p n t1 t2) f (found.forward_is zero_is) words.0
+      pub backward_stores : Holds word_bound (length out) g
+      backward_stores = stores (find_r p n t1 t2) g (found.backward_is refl) words.1
 
-        pub forward_stored : (out' : List ℕ) → out' ≡ take (length out) f → out' ≡ written number (find_s p n t1 t2) out
-        forward_stored = stored (find_s p n t1 t2) f (found.forward_is zero_is) words.0
-
-        pub backward_stores : Holds word_bound (length out) g
-        backward_stores = stores (find_r p n t1 t2) g (found.backward_is zero_is) words.1
-
-        pub backward_stored : (out' : List ℕ) → out' ≡ take (length out) g → out' ≡ written number (find_r p n t1 t2) out
-        backward_stored = stored (find_r p n t1 t2) g (found.backward_is zero_is) words.1
+      pub backward_stored : (out' : List ℕ) → out' ≡ take (length out) g → out' ≡ find_r p n t1 t2
+      backward_stored out' h = h ∙ stored (find_r p n t1 t2) g (found.backward_is refl) words.1
 
 -- the call
 
-module _ (p n number : ℕ) (t1 t2 s r : List ℕ)
-    (e : number ≡ refuse_sent p n (t1 ∷ t2 ∷ s ∷ r ∷ []) (t1 ∷ t2 ∷ []) 0) where
-  module _ (other : number ≡ 0 → ⊥) where
-    pub find_refused : number ≡ find_number p n t1 t2 s r
+module _ (p n : ℕ) (t1 t2 s r : List ℕ) where
+  abbrev lists : List (List ℕ)
+  lists = t1 ∷ t2 ∷ s ∷ r ∷ []
+
+  module _ (e : Refusal) (first : number e ≡ refuse_sent p n lists (t1 ∷ t2 ∷ []) 0) where
+    pub find_refused : number e ≡ find_number p n t1 t2 s r
     unfolding find_number
-    find_refused = sent_stays p n (t1 ∷ t2 ∷ s ∷ r ∷ []) (t1 ∷ t2 ∷ []) _ number e other
+    find_refused = sent_stays p n lists (t1 ∷ t2 ∷ []) _ (number e) first (refused e)
 
     pub forward_kept : s ≡ find_output_s p n t1 t2 s r
     unfolding find_output_s
-    forward_kept = output_old number (find_number p n t1 t2 s r) (find_s p n t1 t2) s find_refused other
+    forward_kept = output_old (number e) (find_number p n t1 t2 s r) (find_s p n t1 t2) s find_refused (refused e)
 
     pub backward_kept : r ≡ find_output_r p n t1 t2 s r
     unfolding find_output_r
-    backward_kept = output_old number (find_number p n t1 t2 s r) (find_r p n t1 t2) r find_refused other
+    backward_kept = output_old (number e) (find_number p n t1 t2 s r) (find_r p n t1 t2) r find_refused (refused e)
 
-  module _ (zero_is : number ≡ 0) where
-    sent : Sent p n (t1 ∷ t2 ∷ s ∷ r ∷ []) (t1 ∷ t2 ∷ [])
-    sent = (sent_given p n (t1 ∷ t2 ∷ s ∷ r ∷ []) (t1 ∷ t2 ∷ []) 0 (sym e ∙ zero_is)).0
+  module _ (none : 0 ≡ refuse_sent p n lists (t1 ∷ t2 ∷ []) 0) where
+    sent : Sent p n lists (t1 ∷ t2 ∷ [])
+    sent = (sent_given p n lists (t1 ∷ t2 ∷ []) 0 (sym none)).0
 
     pub forward_size : length s ≡ n
     forward_size = sent.lengths.1.1.0
@@ -107,11 +106,11 @@ module _ (p n number : ℕ) (t1 t2 s r : List ℕ)
     -- nothing of 1 to 4 applies, so 5 to 7 decide
     pub find_answered : (answer : ℕ) → answer ≡ refuse_find p n t1 t2 → answer ≡ find_number p n t1 t2 s r
     unfolding find_number
-    find_answered answer f = f ∙ sym (given_sent p n (t1 ∷ t2 ∷ s ∷ r ∷ []) (t1 ∷ t2 ∷ []) _ sent)
+    find_answered answer f = f ∙ sym (given_sent p n lists (t1 ∷ t2 ∷ []) _ sent)
 
-    pub forward_output_lem : (answer : ℕ) → answer ≡ refuse_find p n t1 t2 → (s' : List ℕ) → s' ≡ written answer (find_s p n t1 t2) s → s' ≡ find_output_s p n t1 t2 s r
+    pub forward_output : (answer : ℕ) → answer ≡ refuse_find p n t1 t2 → (s' : List ℕ) → s' ≡ written answer (find_s p n t1 t2) s → s' ≡ find_output_s p n t1 t2 s r
     unfolding find_output_s
-    forward_output_lem answer f s' h = h ∙ ap (λ k. written k (find_s p n t1 t2) s) (find_answered answer f)
+    forward_output answer f s' h = h ∙ ap (λ k. written k (find_s p n t1 t2) s) (find_answered answer f)
 
     pub backward_output : (answer : ℕ) → answer ≡ refuse_find p n t1 t2 → (r' : List ℕ) → r' ≡ written answer (find_r p n t1 t2) r → r' ≡ find_output_r p n t1 t2 s r
     unfolding find_output_r

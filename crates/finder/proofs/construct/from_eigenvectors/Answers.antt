@@ -6,11 +6,11 @@ use Rattle.finder.proofs.construct.from_eigenvectors.Goals as goal
 pub eigenvector-first-requires-clause-z_lt_p : goal.eigenvector-first-requires-clause-z_lt_p
 eigenvector-first-requires-clause-z_lt_p c = (search rules, search zeta_has_order)
 
-pub returns-then-not-first : goal.returns-then-not-first
-returns-then-not-first c = search refused_first
+pub returns-then-not-first-clause-number : goal.returns-then-not-first-clause-number
+returns-then-not-first-clause-number c = search refused_first
 
 pub eigenvector-second-requires-clause-z_lt_p : goal.eigenvector-second-requires-clause-z_lt_p
 eigenvector-second-requires-clause-z_lt_p c = (search rules, search zeta_has_order)
 
-pub returns-then-not-second : goal.returns-then-not-second
-returns-then-not-second c = search refused_second
+pub returns-then-not-second-clause-number : goal.returns-then-not-second-clause-number
+returns-then-not-second-clause-number c = search refused_second

@@ -3,11 +3,11 @@ use Rattle.std.proofs.Common.{rules}
 use Rattle.finder.proofs.construct.FromRounds.{unsolved_first, unsolved_second, rounds_choices}
 use Rattle.finder.proofs.construct.from_rounds.Goals as goal
 
-pub returns-then-not-first : goal.returns-then-not-first
-returns-then-not-first c = search unsolved_first
+pub returns-then-not-first-clause-number : goal.returns-then-not-first-clause-number
+returns-then-not-first-clause-number c = search unsolved_first
 
-pub returns-then-not-second : goal.returns-then-not-second
-returns-then-not-second c = search unsolved_second
+pub returns-then-not-second-clause-number : goal.returns-then-not-second-clause-number
+returns-then-not-second-clause-number c = search unsolved_second
 
 pub between-requires-clause-choices : goal.between-requires-clause-choices
 between-requires-clause-choices c =

@@ -1,7 +1,7 @@
--- `pair`: both eigenvectors have a scaling whose n-th power is a, and it is α.
+-- `from_scalings`: both eigenvectors have a scaling whose n-th power is a, and it is α.
 use Rattle.std.proofs.Common.{rules}
 use Rattle.finder.proofs.construct.FromEigenvectors.{zeta_has_order, found_radicand, choices}
-use Rattle.finder.proofs.construct.pair.Goals as goal
+use Rattle.finder.proofs.construct.from_scalings.Goals as goal
 
 pub radicand-a-requires-clause-z_lt_p : goal.radicand-a-requires-clause-z_lt_p
 radicand-a-requires-clause-z_lt_p c = (search rules, search zeta_has_order)
