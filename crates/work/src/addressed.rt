@@ -1,16 +1,15 @@
 // The session that load, propose and find act on: the waiting one while a table is open.
 ghost use Rattle.std.specs.Prelude.{◌≡◌};
-ghost use Rattle.work.specs.Work.{addressed as addressed_of, with_addressed};
+ghost use Rattle.work.specs.Work.{addressed, with_addressed};
 
 use crate::{Table, Work};
 use held::Held;
 
 // That session.
 pub fn addressed(work: Work) -> Held
-    ensures { result ≡ addressed_of work }
+    ensures { result ≡ addressed work }
 {
-    let table = work.table;
-    match table {
+    match work.table {
         Table::Closed => work.held,
         Table::Open(_) => work.waiting,
     }
@@ -20,19 +19,11 @@ pub fn addressed(work: Work) -> Held
 pub fn with_addressed(work: Work, held: Held) -> Work
     ensures { result ≡ with_addressed work held }
 {
-    let table = work.table;
-    let current = work.held;
-    let waiting = work.waiting;
-    match table {
-        Table::Closed => Work {
-            held: held,
-            table: Table::Closed,
-            waiting: waiting,
-        },
-        Table::Open(entry) => Work {
-            held: current,
-            table: Table::Open(entry),
+    match work.table {
+        Table::Closed => Work { held, ..work },
+        Table::Open(_) => Work {
             waiting: held,
+            ..work
         },
     }
 }

@@ -1,7 +1,7 @@
 // What a value counts as, where k records count: one made otherwise counts as a new one.
 ghost use Rattle.std.specs.Prelude.{true, ◌≡◌};
 ghost use Rattle.held.specs.Held.{view, valid_held};
-ghost use Rattle.work.specs.Work.{is_paired, is_open, may_be_open, valid_work, looked as looked_of};
+ghost use Rattle.work.specs.Work.{is_paired, is_open, may_be_open, valid_work, looked};
 ghost use Rattle.work.specs.Counted.{counted_as};
 
 use crate::{Table, Work};
@@ -9,7 +9,8 @@ use held::view::is_valid as held_is_valid;
 use held::{Held, State};
 use ledger::Ledger;
 
-// What a value counts as: whether it is itself, or else a new one, without records.
+// What a value counts as: whether it is itself, or else a new one, without records. No Option: the
+// calls act on `work` and `count` in either case.
 #[derive(Clone, Copy)]
 pub struct CountsAs {
     pub valid: bool,
@@ -22,22 +23,14 @@ fn is_paired(held: Held) -> bool
     requires { valid_held held ≡ true }
     ensures { result ≡ is_paired (view held) }
 {
-    let state = held.state;
-    match state {
-        State::Empty => false,
-        State::Loaded => false,
-        State::Paired => true,
-    }
+    held.state == State::Paired
 }
 
 // Whether a table is open.
 pub fn is_open(table: Table) -> bool
     ensures { result ≡ is_open table }
 {
-    match table {
-        Table::Closed => false,
-        Table::Open(_) => true,
-    }
+    matches!(table, Table::Open(_))
 }
 
 // Whether a table may be open: over a pair, with room for its record, and 1, 2 and 4 refuse no item of the waiting session.
@@ -61,29 +54,23 @@ fn is_valid(work: Work, count: u32) -> bool
     if count > Ledger::RECORDS as u32 {
         return false;
     }
-    let held = work.held;
-    if !held_is_valid(held) {
+    if !held_is_valid(work.held) {
         return false;
     }
-    let table = work.table;
-    if !is_open(table) {
+    if !is_open(work.table) {
         return true;
     }
-    let waiting = work.waiting;
-    may_be_open(held, count, waiting)
+    may_be_open(work.held, count, work.waiting)
 }
 
 // The value without a waiting session where no table is open.
 fn looked(work: Work) -> Work
-    ensures { result ≡ looked_of work }
+    ensures { result ≡ looked work }
 {
-    let table = work.table;
-    let held = work.held;
-    match table {
+    match work.table {
         Table::Closed => Work {
-            held: held,
-            table: Table::Closed,
             waiting: Held::new(),
+            ..work
         },
         Table::Open(_) => work,
     }
@@ -103,6 +90,6 @@ pub fn counted(work: Work, count: u32) -> CountsAs
     CountsAs {
         valid: true,
         work: looked(work),
-        count: count,
+        count,
     }
 }

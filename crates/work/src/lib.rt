@@ -1,12 +1,12 @@
 // A session without its ledger (document 02, S-8): what is held, the open table and the waiting session.
 //   counted     what a value counts as
 //   addressed   the session that load, propose and find act on
-//   number      the numbers by where a session is
+//   state       the refusals by where a session is
 #![tactic(auto)]
 
 pub mod addressed;
 pub mod counted;
-pub mod number;
+pub mod state;
 
 ghost use Rattle.std.specs.Prelude.{◌≡◌};
 ghost use Rattle.work.specs.Work.{new_work};
@@ -29,17 +29,9 @@ pub struct Work {
     pub waiting: Held,
 }
 
-// A call's answer: 0 or the number of the refusal, and, where it is 0, the next value.
+// What a call that adds a record gives: the next value, and the record.
 #[derive(Clone, Copy)]
-pub struct WorkStep {
-    pub number: u32,
-    pub work: Work,
-}
-
-// The answer of a call that adds a record to the ledger where its number is 0.
-#[derive(Clone, Copy)]
-pub struct RecordStep {
-    pub number: u32,
+pub struct Recorded {
     pub work: Work,
     pub entry: Record,
 }

@@ -12,7 +12,7 @@ module _ (x : Work) where
     unfolding addressed
     current_addressed = rw e
 
-    pub current_replaced : (h : Held) → record { held = h; table = Closed; waiting = x.waiting } ≡ with_addressed x h
+    pub current_replaced : (h : Held) → record { held = h; table = x.table; waiting = x.waiting } ≡ with_addressed x h
     unfolding with_addressed
     current_replaced h = rw e
 
@@ -21,6 +21,6 @@ module _ (x : Work) where
     unfolding addressed
     waiting_addressed = rw e
 
-    pub waiting_replaced : (h : Held) → record { held = x.held; table = Open r; waiting = h } ≡ with_addressed x h
+    pub waiting_replaced : (h : Held) → record { held = x.held; table = x.table; waiting = h } ≡ with_addressed x h
     unfolding with_addressed
     waiting_replaced h = rw e

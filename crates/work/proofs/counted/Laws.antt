@@ -2,9 +2,13 @@
 use mathlib.Core.Path.{◌≡◌, refl, ap, ◌∙◌}
 use mathlib.Core.Bool.{Bool, true, false, not}
 use Prim.Native.Nat.{ℕ, ◌≤◌, ◌<◌}
+use denote.Enum.Bare.{sameb}
 use borrow.Author.Tests.{not-true, not-false, le-leb, lt-leb, eq-eqb, ne_eqb}
 use Rattle.held.specs.Held.{view, valid_held, new_held}
 use Rattle.held.specs.declared.Held.{Held}
+use Rattle.held.specs.ViewState.{view_state}
+use Rattle.held.specs.contracts.State.{the_type}
+use Rattle.held.specs.declared.State.{State}
 use Rattle.held.specs.declared.State.TheVariants.{Empty, Loaded, Paired}
 use Rattle.held.proofs.Contents.{empty-view, loaded-view, paired-view, valid_state}
 use Rattle.ledger.specs.Ledger.{most_records}
@@ -19,18 +23,14 @@ pub held_passed : (x : Held) (b : Bool) → b ≡ valid_held x → not b ≡ fal
 held_passed x b e n = rw (← e) (not-false b n)
 
 -- whether a valid value is paired
-module _ (x : Held) (v : valid_held x ≡ true) where
-  pub empty_unpaired : x.state ≡ Empty → false ≡ is_paired (view x)
-  unfolding is_paired
-  empty_unpaired f = rw (empty-view x _ (valid_state x v) f)
-
-  pub loaded_unpaired : x.state ≡ Loaded → false ≡ is_paired (view x)
-  unfolding is_paired
-  loaded_unpaired f = rw (loaded-view x _ (valid_state x v) f)
-
-  pub paired_paired : x.state ≡ Paired → true ≡ is_paired (view x)
-  unfolding is_paired
-  paired_paired f = rw (paired-view x _ (valid_state x v) f)
+pub paired_state : (x : Held) → valid_held x ≡ true → sameb the_type x.state Paired ≡ is_paired (view x)
+unfolding is_paired
+paired_state x v = go x.state (valid_state x v)
+  where
+    go : (s : State) → s ≡ view_state (view x) → sameb the_type s Paired ≡ is_paired (view x)
+    go Empty e = rw (empty-view x Empty e refl) refl
+    go Loaded e = rw (loaded-view x Loaded e refl) refl
+    go Paired e = rw (paired-view x Paired e refl) refl
 
 -- whether a table may be open
 module _ (h : Held) (k : ℕ) (w : Held) (b : Bool) (e : b ≡ is_paired (view h)) where
@@ -77,7 +77,7 @@ module _ (x : Work) (k : ℕ) where
 
 -- what is looked at
 module _ (x : Work) where
-  pub looked_closed : x.table ≡ Closed → (w : Held) → w ≡ new_held → record { held = x.held; table = Closed; waiting = w } ≡ looked x
+  pub looked_closed : x.table ≡ Closed → (w : Held) → w ≡ new_held → record { held = x.held; table = x.table; waiting = w } ≡ looked x
   unfolding looked
   looked_closed e w f = rw (e, f)
 

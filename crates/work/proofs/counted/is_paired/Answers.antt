@@ -1,12 +1,7 @@
 -- By the state, which a valid value counts as.
-use Rattle.work.proofs.counted.Laws.{empty_unpaired, loaded_unpaired, paired_paired}
+use Rattle.std.proofs.Common.{◌∙◌}
+use Rattle.work.proofs.counted.Laws.{paired_state}
 use Rattle.work.proofs.counted.is_paired.Goals as goal
 
-pub returns-in-Empty : goal.returns-in-Empty
-returns-in-Empty c = search empty_unpaired
-
-pub returns-in-Loaded : goal.returns-in-Loaded
-returns-in-Loaded c = search loaded_unpaired
-
-pub returns-in-Paired : goal.returns-in-Paired
-returns-in-Paired c = search paired_paired
+pub returns : goal.returns
+returns c = c.eq.ensures ∙ paired_state c.args.held c.requires

@@ -1,9 +1,8 @@
--- The numbers by where a session is, by the tests of the code.
+-- The refusals by where a session is, by the tests of the code.
 use mathlib.Core.Path.{◌≡◌}
-use mathlib.Core.Bool.{true}
+use mathlib.Core.Bool.{Bool, true, false}
 use Prim.Native.Nat.{ℕ}
 use borrow.Author.Tests.{eq-eqb, ne_eqb}
-use Rattle.refusal.specs.Refusal.{refuse}
 use Rattle.held.specs.Held.{valid_held}
 use Rattle.held.specs.declared.State.TheVariants.{Empty, Loaded, Paired}
 use Rattle.held.proofs.Contents.{empty-view, loaded-view, paired-view, valid_state}
@@ -21,9 +20,14 @@ module _ (x : Work) (v : valid_held x.held ≡ true) where
   unfolding state_number state_from
   state_loaded f = rw (loaded-view x.held _ (valid_state x.held v) f)
 
-  pub state_paired : x.held.state ≡ Paired → (j : ℕ) → j ≡ refuse 27 (is_open x.table) 0 → j ≡ state_number x
-  unfolding state_number state_from
-  state_paired f j g = rw (paired-view x.held _ (valid_state x.held v) f) g
+  module _ (b : Bool) (e : b ≡ is_open x.table) (f : x.held.state ≡ Paired) where
+    pub state_open : b ≡ true → 27 ≡ state_number x
+    unfolding state_number state_from
+    state_open h = rw (paired-view x.held _ (valid_state x.held v) f, ← e, h)
+
+    pub state_closed : b ≡ false → 0 ≡ state_number x
+    unfolding state_number state_from
+    state_closed h = rw (paired-view x.held _ (valid_state x.held v) f, ← e, h)
 
 module _ (k : ℕ) where
   pub is_full : k ≡ most_records → 25 ≡ full_number k
