@@ -1,9 +1,6 @@
 -- Loops that write the words of a list xs one after another into a list w of its length.
-use Rattle.std.proofs.Common.{◌≡◌, ℕ, ◌+◌, ◌<◌, ◌≤◌, false, ltb, List, length, get_or, set, sym, ap, ◌∙◌, ⊎_elim, eq-or-lt_of_le, arith, length-set, get_or-set_other, get_or-set_same, ext_get_or, ltb-false}
+use Rattle.std.proofs.Common.{◌≡◌, ℕ, ◌+◌, ◌<◌, ◌≤◌, List, length, get_or, set, sym, ap, ◌∙◌, ⊎_elim, eq-or-lt_of_le, arith, length-set, get_or-set_other, get_or-set_same, ext_get_or}
 use Rattle.differences.specs.Clauses.{Begun}
-
-pub begun_none : (xs w : List ℕ) → length w ≡ length xs → Begun 0 xs w
-begun_none xs w size = record { size = size; words = λ i l h. absurd (omega arith) }
 
 pub begun_turn : (k r : ℕ) (xs w : List ℕ) → Begun k xs w → k < length xs → r ≡ get_or xs k 0 → Begun (k + 1) xs (set w k r)
 begun_turn k r xs w begun inside e =
@@ -23,14 +20,6 @@ begun_turn k r xs w begun inside e =
 
 pub begun_done : (k : ℕ) (xs w : List ℕ) → Begun k xs w → length xs ≤ k → w ≡ xs
 begun_done k xs w begun end = ext_get_or 0 w xs begun.size (λ i l. begun.words i (omega (arith, begun.size)) (omega (arith, begun.size)))
-
--- the end of a loop over the first n words: n of them are written, or all that there are
-
-pub begun_few : (n k : ℕ) (xs w : List ℕ) → Begun k xs w → ltb k n ≡ false → Begun n xs w
-begun_few n k xs w begun end = record { size = begun.size; words = λ i l h. begun.words i (omega (arith, ltb-false k n end)) h }
-
-pub begun_all : (n k : ℕ) (xs w : List ℕ) → Begun k xs w → length xs ≤ k → Begun n xs w
-begun_all n k xs w begun end = record { size = begun.size; words = λ i l h. begun.words i (omega arith) h }
 
 -- the first n words of xs are those of another list
 pub begun_other : (n : ℕ) (xs ys w : List ℕ) → length ys ≡ length xs → ((i : ℕ) → i < n → i < length xs → get_or ys i 0 ≡ get_or xs i 0) → Begun n xs w → Begun n ys w

@@ -12,8 +12,8 @@ stored_given n table out h =
     let (degree, h9) = refuse_none 1 (bad_degree n) _ h in
     (degree_given n degree, (lengths_passed n 0 table out h9).0)
 
-pub stored_room : (n number : ℕ) (table out : List ℕ) → number ≡ differences_number n table out → number ≡ 0 → length out ≡ length table
-stored_room n number table out e z = (stored_given n table out (sym e ∙ z)).1.lengths
+pub stored_room : (n : ℕ) (table out : List ℕ) → 0 ≡ differences_number n table out → length out ≡ length table
+stored_room n table out h = (stored_given n table out (sym h)).1.lengths
 
 pub given_stored : (n : ℕ) (table out : List ℕ) → 1 ≤ n → n ≤ largest_degree → Lengths n table out → differences_number n table out ≡ 0
 unfolding differences_number

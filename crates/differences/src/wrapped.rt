@@ -3,18 +3,17 @@ ghost use Rattle.std.specs.Prelude.{◌≡◌, ◌+◌, ◌%◌};
 ghost use Rattle.array.specs.Words.{word_bound};
 
 use array::Word;
-use std::num::{wrapping_add_u32, wrapping_sub_u32};
 
 // a + b.
 pub fn plus(a: Word, b: Word) -> Word
     ensures { result ≡ (a + b) % word_bound }
 {
-    wrapping_add_u32(a, b)
+    a.wrapping_add(b)
 }
 
 // a − b: the word to which b is added to make a.
 pub fn minus(a: Word, b: Word) -> Word
     ensures { (result + b) % word_bound ≡ a }
 {
-    wrapping_sub_u32(a, b)
+    a.wrapping_sub(b)
 }

@@ -16,7 +16,7 @@ use modular::barrett::Barrett;
 pub fn convert_groups(d: Barrett, n: usize, m: &[u64; 256], table: &[Word], out: &mut [Word])
     requires reduces { Reduces d × (1 ≤ n) × (n ≤ 16) }
     requires rows { Rows d.p n m.now }
-    requires out_value { table_number d.p n table.now out.old ≡ 0 }
+    requires convertible { table_number d.p n table.now out.old ≡ 0 }
     ensures { out.new ≡ each_group n (matrix_product d.p n m.now) (length table.now / n) table.now }
 {
     for k in 0..table.len() / n {
@@ -29,7 +29,7 @@ pub fn convert_groups(d: Barrett, n: usize, m: &[u64; 256], table: &[Word], out:
 pub fn convert(p: u32, n: u32, t: &[Word], s: &[Word], table: &[Word], out: &mut [Word])
     requires le_p { (2 ≤ p) × (p ≤ 2 ^ 20) × (1 ≤ n) × (n ≤ 16) }
     requires words { Words p n t.now × Words p n s.now }
-    requires out_value { table_number p n table.now out.old ≡ 0 }
+    requires convertible { table_number p n table.now out.old ≡ 0 }
     ensures { out.new ≡ converted p n t.now s.now table.now }
 {
     let modulus = load(t);

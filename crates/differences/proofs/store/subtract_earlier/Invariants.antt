@@ -1,11 +1,7 @@
 -- Before turn k the first k words are those of the differences.
-use Rattle.std.proofs.Common.{◌≡◌, ◌-◌, ◌≤◌, length}
 use Rattle.differences.specs.Clauses.{Begun}
 use Rattle.differences.specs.Differences.{differences}
 use Rattle.differences.proofs.store.subtract_earlier.Given as goal
 
 abbrev pub invariant-loop-k : goal.invariant-loop-k
-invariant-loop-k l = (l.n ≤ l.k) × (length l.out ≡ length l.table) × Begun l.k (differences l.n l.table) l.out
-
-abbrev pub decreases-loop-k : goal.decreases-loop-k
-decreases-loop-k l = length l.table - l.k
+invariant-loop-k l = Begun l.k (differences l.n l.table) l.out
