@@ -8,6 +8,7 @@ ghost use Rattle.frobenius.specs.Kernel.{Divided, EigenvectorFound};
 ghost use Rattle.roots.specs.Roots.{Admissible, OrderModulo};
 
 use crate::kernel::kernel;
+use linear::system::Solution;
 use residue::ring::power;
 use roots::radicand::is_radicand;
 use scalar::vector::{is_constant, normalise};
@@ -46,16 +47,14 @@ fn by_kernel(p: u64, n: usize, z: u64, t: &[u64; 16], m: &mut [u64; 256]) -> Nor
     ensures eigenvector_found { EigenvectorFound p n (take n t.now) z result.found result.vector result.constant }
     ensures m_len_2 { length m.new ≡ 256 }
 {
-    let answer = kernel(p, n, z, t, m);
-    if answer.regular {
-        return Normalised {
+    match kernel(p, n, z, t, m) {
+        Solution::Unique(_) => Normalised {
             found: false,
             vector: [0; 16],
             constant: 0,
-        };
+        },
+        Solution::NullVector(v) => divided(p, n, t, &v),
     }
-    let v = answer.vector;
-    divided(p, n, t, &v)
 }
 
 // An eigenvector from any vector v ≠ 0: if its n-th power, after division by its first word that is not 0, is a constant b and b^((p − 1)/n) = ζ, then it is one, and no

@@ -5,12 +5,14 @@ ghost use Rattle.array.specs.Array.{Square, Holds};
 ghost use Rattle.frobenius.specs.Image.{Expression, Image};
 
 use comparison::equality::is_x;
-use linear::system::solve;
+use linear::system::{Solution, solve};
 use matrix::product::apply;
 use residue::ring::residue_of_x;
 use traces::polynomial::expression;
 
-// The polynomial P with P(a1) = X modulo T, where the columns of m are the powers of a1 modulo T, by elimination on a copy of m.
+// The polynomial P with P(a1) = X modulo T, where the columns of m are the powers of a1 modulo T, by
+// elimination on a copy of m. Where the system is singular, the powers are dependent, and nothing is
+// said of P.
 fn by_elimination(p: u64, n: usize, t: &[u64; 16], m: &[u64; 256]) -> [u64; 16]
     requires prime { Prime p }
     requires p_bound { (p ≤ 2 ^ 20) × (1 ≤ n) × (n ≤ 16) }
@@ -19,8 +21,9 @@ fn by_elimination(p: u64, n: usize, t: &[u64; 16], m: &[u64; 256]) -> [u64; 16]
 {
     let mut system = *m;
     let x = residue_of_x(p, n, t);
-    let answer = solve(p, n, &mut system, x);
-    answer.vector
+    match solve(p, n, &mut system, x) {
+        Solution::Unique(vector) | Solution::NullVector(vector) => vector,
+    }
 }
 
 // Whether a polynomial has the value X modulo T at a1.

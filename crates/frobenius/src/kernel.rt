@@ -3,7 +3,7 @@ ghost use Rattle.std.specs.Prelude.{true, ◌≡◌, ◌^◌, ◌≤◌, ◌<◌
 ghost use Rattle.algebra.specs.Prime.{Prime};
 ghost use Rattle.array.specs.Array.{Square, Holds};
 ghost use Rattle.matrix.specs.Matrix.{Frobenius};
-ghost use Rattle.frobenius.specs.Kernel.{Stretched, Kernel};
+ghost use Rattle.frobenius.specs.Kernel.{Stretched, KernelOf};
 
 use comparison::equality::same;
 use linear::system::{Solution, solve};
@@ -33,7 +33,7 @@ fn by_elimination(p: u64, n: usize, z: u64, t: &[u64; 16], m: &mut [u64; 256]) -
     requires p_bound { (p ≤ 2 ^ 20) × (1 ≤ n) × (n ≤ 16) × (z < p) }
     requires holds { Holds p n t.now }
     requires frobenius { Frobenius p n (take n t.now) m.old }
-    ensures kernel { Kernel p n (take n t.now) z result.regular result.vector }
+    ensures kernel { KernelOf p n (take n t.now) z result }
     ensures m_len { length m.new ≡ 256 }
 {
     minus(p, n, z, m);
@@ -46,7 +46,7 @@ pub fn kernel(p: u64, n: usize, z: u64, t: &[u64; 16], m: &mut [u64; 256]) -> So
     requires p_bound { (p ≤ 2 ^ 20) × (1 ≤ n) × (n ≤ 16) × (z < p) }
     requires holds { Holds p n t.now }
     requires m_len { length m.old ≡ 256 }
-    ensures kernel { Kernel p n (take n t.now) z result.regular result.vector }
+    ensures kernel { KernelOf p n (take n t.now) z result }
     ensures m_len_2 { length m.new ≡ 256 }
 {
     frobenius(p, n, t, m);
@@ -55,10 +55,7 @@ pub fn kernel(p: u64, n: usize, z: u64, t: &[u64; 16], m: &mut [u64; 256]) -> So
     }
     let v = resolvent(p, n, z, m);
     if is_eigenvector(p, n, z, m, &v) {
-        return Solution {
-            regular: false,
-            vector: v,
-        };
+        return Solution::NullVector(v);
     }
     by_elimination(p, n, z, t, m)
 }

@@ -7,7 +7,7 @@ ghost use Rattle.array.specs.Array.{Holds};
 ghost use Rattle.modular.specs.Barrett.{Reduces};
 ghost use Rattle.quotient.specs.Residue.{HasInverse};
 
-use linear::system::solve;
+use linear::system::{Solution, solve};
 use matrix::multiples::multiples;
 use modular::barrett::Barrett;
 
@@ -22,6 +22,5 @@ pub fn has_inverse(d: Barrett, n: usize, t: &[u64; 16], w: &[u64; 16]) -> bool
     multiples(d, n, t, w, &mut m);
     let mut one = [0; 16];
     one[0] = 1;
-    let answer = solve(d.p, n, &mut m, one);
-    answer.regular
+    matches!(solve(d.p, n, &mut m, one), Solution::Unique(_))
 }

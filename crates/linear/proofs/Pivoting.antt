@@ -5,41 +5,18 @@ use mathlib.Core.Path.{◌≡◌, sym, ap, ◌∙◌}
 use mathlib.Core.List.{List}
 use Prim.Native.Nat.{ℕ, ◌+◌, ◌-◌, ◌*◌, ◌%◌, ◌≤◌, ◌<◌}
 use native.Mathlib.Decide.{ℕ_discrete}
-use native.Mathlib.Nat.{mod_self, mod-eq_of_lt, mul_comm}
+use native.Mathlib.Nat.{mod_self, mul_comm}
 use native.Mathlib.Omega.{arith}
 use Rattle.algebra.specs.Prime.{Prime}
 use Rattle.modular.proofs.Inverse.{inverse_product}
 use Rattle.modular.specs.Inverse.{inverse}
 use Rattle.array.specs.Array.{entry}
-use Rattle.linear.specs.Elimination.{Reduced, Equivalent, RowStep, Advanced, Prepared, Pivot}
+use Rattle.linear.specs.Elimination.{Reduced, Equivalent, RowStep, Advanced, Prepared}
 
 pub record Scanned (n c : ℕ) (m : List ℕ) (i : ℕ) : Type 0 where
   pub from : c ≤ i
   pub to : i ≤ n
   pub zeros : (k : ℕ) → c ≤ k → k < i → entry m k c ≡ 0
-
-pub scan_start : (n c : ℕ) (m : List ℕ) → c < n → Scanned n c m c
-scan_start n c m h = record { from = omega arith; to = omega arith; zeros = λ k l g. absurd (omega arith) }
-
-pub scan_turn : (n c i : ℕ) (m : List ℕ) → Scanned n c m i → i < n → entry m i c ≡ 0 → Scanned n c m (i + 1)
-scan_turn n c i m S h e =
-    record { from = omega (arith, S.from); to = omega arith; zeros = λ k l g. go k l g (ℕ_discrete k i) }
-  where
-    go : (k : ℕ) → c ≤ k → k < i + 1 → Dec (k ≡ i) → entry m k c ≡ 0
-    go k l g (yes d) = rw d e
-    go k l g (no d) = S.zeros k l (omega arith)
-
-pub scan_found : (n c i : ℕ) (m : List ℕ) → Scanned n c m i → (entry m i c ≡ 0 → ⊥) → Pivot n c m i
-scan_found n c i m S d = record { from = S.from; to = S.to; zeros = S.zeros; nonzero = λ _. d }
-
-pub scan_none : (n c i : ℕ) (m : List ℕ) → Scanned n c m i → n ≤ i → Pivot n c m n
-scan_none n c i m S h =
-    record {
-      from = omega (arith, S.from, S.to);
-      to = omega arith;
-      zeros = λ k l g. S.zeros k l (omega arith);
-      nonzero = λ g. absurd (omega arith);
-    }
 
 pub equivalent_refl : (p n : ℕ) (m b : List ℕ) → Equivalent p n m b m b
 equivalent_refl p n m b = record { forth = λ t v l h. h; back = λ t v l h. h }
@@ -48,30 +25,11 @@ pub equivalent_trans : {p n : ℕ} {m b m' b' m'' b'' : List ℕ} → Equivalent
 equivalent_trans e f =
     record { forth = λ t v l h. f.forth t v l (e.forth t v l h); back = λ t v l h. e.back t v l (f.back t v l h) }
 
--- The pivot is in row c already, or row c is 0 in column c and becomes the pivot's word there.
-pub bring_stay : (p n c r : ℕ) (m b : List ℕ) → Reduced p n c m b → Pivot n c m r → r < n → r ≡ c → Prepared p n c m b m b
-bring_stay p n c r m b R P h e =
-    let d : entry m c c ≡ 0 → ⊥ = λ z. P.nonzero h (rw e z) in
-    record { advanced = record { reduced = R; equivalent = equivalent_refl p n m b }; positive = omega arith }
-
-pub bring_add : (p n c r : ℕ) (m b m' b' : List ℕ) → Reduced p n c m b → Pivot n c m r → c < n → r < n → (r ≡ c → ⊥)
-    → RowStep p n c c ((entry m c c + 1 * entry m r c) % p) m b m' b' → Prepared p n c m b m' b'
-bring_add p n c r m b m' b' R P column row d S =
-    let zero : entry m c c ≡ 0 = P.zeros c (omega arith) (omega (arith, P.from)) in
-    let word : entry m c c + 1 * entry m r c ≡ entry m r c = omega arith in
-    let now : entry m' c c ≡ entry m r c = S.changed ∙ ap (λ k. k % p) word ∙ mod-eq_of_lt (R.matrix.square.below r c row column) in
-    let e : entry m' c c ≡ 0 → ⊥ = λ z. P.nonzero row (sym now ∙ z) in
-    record { advanced = record { reduced = S.reduced; equivalent = S.equivalent }; positive = omega arith }
-
 pub record Clearing (p n c k : ℕ) (m b m' b' : List ℕ) : Type 0 where
   pub reduced : Reduced p n c m' b'
   pub equivalent : Equivalent p n m b m' b'
   pub one : entry m' c c ≡ 1
   pub zeros : (i : ℕ) → i < k → (i ≡ c → ⊥) → entry m' i c ≡ 0
-
-pub clear_start : (p n c : ℕ) (m b : List ℕ) → Reduced p n c m b → entry m c c ≡ 1 → Clearing p n c 0 m b m b
-clear_start p n c m b R e =
-    record { reduced = R; equivalent = equivalent_refl p n m b; one = e; zeros = λ i h. absurd (omega arith) }
 
 -- e + (p − e)·1 is p, which is 0. After a turn the matrix and the right side are x and y, by either way.
 pub clear_turn : (p n c i : ℕ) (m b m' b' m'' b'' x y : List ℕ) → c < n → i < n → (i ≡ c → ⊥) → Clearing p n c i m b m' b'
@@ -96,9 +54,6 @@ pub clear_skip : (p n c i : ℕ) (m b m' b' x y : List ℕ) → i ≡ c → Clea
 clear_skip p n c i m b m' b' x y e C ex ey =
     rw (ex, ey)
     (record { reduced = C.reduced; equivalent = C.equivalent; one = C.one; zeros = λ k h d. C.zeros k (omega arith) d })
-
-pub word_at_most : (p n c i : ℕ) (m b m' b' : List ℕ) → Clearing p n c i m b m' b' → c < n → i < n → entry m' i c ≤ p
-word_at_most p n c i m b m' b' C column row = omega (arith, C.reduced.matrix.square.below i c row column)
 
 pub clear_end : (p n c i : ℕ) (m b m' b' : List ℕ) → n ≤ i → Clearing p n c i m b m' b' → Advanced p n (c + 1) m b m' b'
 clear_end p n c i m b m' b' h C =

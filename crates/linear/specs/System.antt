@@ -3,9 +3,12 @@
 --   Regular p n m b v    v is the only solution of M·v = b, and 0 the only one of M·v = 0
 --   Singular p n m v     v is not 0, and M·v = 0
 --   Outcome p n m b r v  the answer to a system: regular (r true) or singular (r false), with the vector v
+--   SolutionOf p n m b s the same of the enum that `solve` returns
 use Rattle.std.specs.Prelude.{◌≡◌, Bool, true, false, List, [], ℕ, ◌%◌, ◌<◌, get_or, take, replicate}
 use Rattle.array.specs.Array.{Holds, row_product}
 use Rattle.array.specs.Words.{Words}
+use Rattle.linear.specs.declared.system.Solution.{Solution}
+use Rattle.linear.specs.declared.system.Solution.TheVariants.{Unique, NullVector}
 
 abbrev pub Solves : ℕ → ℕ → List ℕ → List ℕ → List ℕ → Type 0
 Solves p n m b v = (i : ℕ) → i < n → row_product m i 0 v % p ≡ get_or b i 0 % p
@@ -23,3 +26,7 @@ pub record Outcome (p n : ℕ) (m b : List ℕ) (regular : Bool) (vector : List 
   pub holds : Holds p n vector
   pub if_regular : regular ≡ true → Regular p n m b (take n vector)
   pub if_singular : regular ≡ false → Singular p n m (take n vector)
+
+abbrev pub SolutionOf : ℕ → ℕ → List ℕ → List ℕ → Solution → Type 0
+SolutionOf p n m b (Unique v) = Outcome p n m b true v
+SolutionOf p n m b (NullVector v) = Outcome p n m b false v

@@ -10,7 +10,7 @@ use modular::word::remainder;
 // e + f·g modulo p.
 fn plus_product(d: Barrett, e: u64, f: u64, g: u64) -> u64
     requires reduces { Reduces d }
-    requires e_lt_p { (e < d.p) × (f ≤ d.p) × (g < d.p) }
+    requires factors { (e < d.p) × (f ≤ d.p) × (g < d.p) }
     ensures { (result ≡ (e + f * g) % d.p) × (result < d.p) }
 {
     d.reduce(e + times(f, g))
@@ -28,15 +28,13 @@ pub fn add_multiple(
     b: &mut [u64; 16],
 )
     requires reduces { Reduces d }
-    requires n_bound { (n ≤ 16) × (c < n) × (x < n) × (y < n) × (c ≤ y) × (f ≤ d.p) × (x ≡ y → ⊥) }
+    requires rows { (n ≤ 16) × (c < n) × (x < n) × (y < n) × (c ≤ y) × (f ≤ d.p) × (x ≡ y → ⊥) }
     requires reduced { Reduced d.p n c m.old b.old }
     ensures { RowStep d.p n c x ((entry m.old x c + f * entry m.old y c) % d.p) m.old b.old m.new b.new }
 {
-    let mut j = c;
-    while j < n {
+    for j in c..n {
         let k = 16 * x + j;
         m[k] = plus_product(d, m[k], f, m[16 * y + j]);
-        j += 1;
     }
     b[x] = plus_product(d, b[x], f, b[y]);
 }
@@ -45,16 +43,14 @@ pub fn add_multiple(
 // columns.
 pub fn scale(d: Barrett, n: usize, c: usize, inverse: u64, m: &mut [u64; 256], b: &mut [u64; 16])
     requires reduces { Reduces d }
-    requires n_bound { (n ≤ 16) × (c < n) × ((inverse * entry m.old c c) % d.p ≡ 1) }
+    requires inverse_of_pivot { (n ≤ 16) × (c < n) × ((inverse * entry m.old c c) % d.p ≡ 1) }
     requires reduced { Reduced d.p n c m.old b.old }
     ensures { RowStep d.p n c c 1 m.old b.old m.new b.new }
 {
     let a = remainder(d.p, inverse);
-    let mut j = c;
-    while j < n {
+    for j in c..n {
         let k = 16 * c + j;
         m[k] = plus_product(d, 0, a, m[k]);
-        j += 1;
     }
     b[c] = plus_product(d, 0, a, b[c]);
 }

@@ -55,14 +55,12 @@ pub fn artin_schreier(p: u64, n: usize, t: &[u64; 16], c: &[u64; 256], a: &[u64;
 {
     let mut system = *c;
     place(n, 0, a, &mut system);
-    let answer = solve(p, n, &mut system, [0; 16]);
-    let u = answer.vector;
-    if answer.regular {
+    let linear::system::Solution::NullVector(u) = solve(p, n, &mut system, [0; 16]) else {
         return Solution {
             found: false,
             vector: [0; 16],
         };
-    }
+    };
     if u[0] == 0 {
         return Solution {
             found: false,

@@ -1,42 +1,15 @@
--- The loops of the two row operations: what they read is below p, so that a word plus a product can be reduced; a turn writes one column more, and at
--- the end a row operation is done.
+-- The loops of the two row operations: a turn writes one column more, and at the end a row operation is done.
 use mathlib.Core.Path.{◌≡◌, refl, ap, ap₂, subst, ◌∙◌}
 use mathlib.Core.List.{List}
-use Prim.Native.Nat.{ℕ, ◌+◌, ◌*◌, ◌%◌, ◌^◌, ◌≤◌, ◌<◌}
-use native.Mathlib.Nat.{mod-mod, mul-le-mul, mul-le-mul_left, mul-le-mul_right}
+use Prim.Native.Nat.{ℕ, ◌+◌, ◌*◌, ◌%◌, ◌≤◌, ◌<◌}
+use native.Mathlib.Nat.{mod-mod}
 use native.Mathlib.Omega.{arith}
 use lib.ListN.{get_or, set}
-use mir.Syntax.{w64}
-use mir.Val.{Fits}
 use Rattle.linear.proofs.Congruence.{product_congruent}
 use Rattle.linear.proofs.row.Write.{Written, written_turn, written_next}
 use Rattle.array.specs.Array.{entry}
 use Rattle.linear.specs.Elimination.{Reduced, RowStep}
 use Rattle.linear.proofs.row.RowStep.{added, scaled, added_step, scaled_step}
-
--- A word plus a product, as the rows' words have it: f·g ≤ p·(p − 1), and e ≤ p. Here w is f·g.
-module _ (p e f g w : ℕ) (h : w ≡ f * g) (he : e < p) (hf : f ≤ p) (hg : g < p) where
-  sum_below : e + w ≤ p * p
-  sum_below =
-      let a : f * g ≤ p * g = mul-le-mul_right g hf in
-      let b : p * (g + 1) ≤ p * p = mul-le-mul_left p (omega arith) in
-      omega arith
-
-  pub sum_few : e + w ≤ 64 * (p * p)
-  sum_few = omega (arith, sum_below)
-
-  pub sum_fits : p ≤ 2 ^ 20 → Fits w64 (e + w)
-  sum_fits small = omega (arith, sum_below, mul-le-mul small small)
-
-pub sum_is : (p e f g w r : ℕ) → w ≡ f * g → r ≡ (e + w) % p → r ≡ (e + f * g) % p
-sum_is p e f g w r h k = k ∙ ap (λ x. (e + x) % p) h
-
--- What the loops over the columns read is below p.
-pub next_below : (F : ℕ → ℕ) (p n c x y k : ℕ) (m b m' : List ℕ) → Written F x c k m m' → n ≤ 16 → k < n → y < n → Reduced p n c m b → entry m' y k < p
-next_below F p n c x y k m b m' W small h row R = rw (written_next F x c k m m' W (omega arith) y) (R.matrix.square.below y k row h)
-
-pub right_below : (p n c i : ℕ) (m b : List ℕ) → Reduced p n c m b → i < n → get_or b i 0 < p
-right_below p n c i m b R h = R.below i h
 
 -- A turn of each loop, and what the loop leaves.
 pub added_turn : (p f n c x y k w : ℕ) (m m' : List ℕ) → Written (added p f m x y) x c k m m' → n ≤ 16 → x < n → k < n
@@ -47,10 +20,10 @@ added_turn p f n c x y k w m m' W small hx hk e =
     written_turn (added p f m x y) x c k w m m' W (omega arith) (e ∙ ap₂ (λ s t. (s + f * t) % p) (same x) (same y))
 
 pub added_end : (p f n c x y k w : ℕ) (m b m' : List ℕ) → 2 ≤ p → n ≤ 16 → c < n → x < n → y < n → c ≤ y → (x ≡ y → ⊥) → Reduced p n c m b
-    → k ≤ n → n ≤ k → Written (added p f m x y) x c k m m' → w ≡ (get_or b x 0 + f * get_or b y 0) % p
+    → (c ≤ n → k ≤ n) → n ≤ k → Written (added p f m x y) x c k m m' → w ≡ (get_or b x 0 + f * get_or b y 0) % p
     → RowStep p n c x ((entry m x c + f * entry m y c) % p) m b m' (set b x w)
 added_end p f n c x y k w m b m' big small column row row' from differ R l g W e =
-    let W' : Written (added p f m x y) x c n m m' = subst (λ z. Written (added p f m x y) x c z m m') (omega arith) W in
+    let W' : Written (added p f m x y) x c n m m' = subst (λ z. Written (added p f m x y) x c z m m') (omega (arith, l (omega arith))) W in
     added_step p f n c x y w m b m' W' (omega arith) small column row row' from differ R e
 
 pub scaled_turn : (p a n c k w : ℕ) (m m' : List ℕ) → Written (scaled p a m c) c c k m m' → n ≤ 16 → c < n → k < n
@@ -65,7 +38,7 @@ factor_product : (p i a e : ℕ) → a ≡ i % p → (i * e) % p ≡ 1 → (a * 
 factor_product p i a e h one = product_congruent p a i e e (ap (λ x. x % p) h ∙ mod-mod i p) refl ∙ one
 
 pub scaled_end : (p i a n c k w : ℕ) (m b m' : List ℕ) → 2 ≤ p → n ≤ 16 → c < n → (i * entry m c c) % p ≡ 1 → a ≡ i % p → Reduced p n c m b
-    → k ≤ n → n ≤ k → Written (scaled p a m c) c c k m m' → w ≡ (0 + a * get_or b c 0) % p → RowStep p n c c 1 m b m' (set b c w)
+    → (c ≤ n → k ≤ n) → n ≤ k → Written (scaled p a m c) c c k m m' → w ≡ (0 + a * get_or b c 0) % p → RowStep p n c c 1 m b m' (set b c w)
 scaled_end p i a n c k w m b m' big small column one factor R l g W e =
-    let W' : Written (scaled p a m c) c c n m m' = subst (λ q. Written (scaled p a m c) c c q m m') (omega arith) W in
+    let W' : Written (scaled p a m c) c c n m m' = subst (λ q. Written (scaled p a m c) c c q m m') (omega (arith, l (omega arith))) W in
     scaled_step p a n c w m b m' W' (omega arith) small column (factor_product p i a (entry m c c) factor one) R e

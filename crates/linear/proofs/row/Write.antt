@@ -1,6 +1,6 @@
 -- Writing a part of one row of a flat matrix, column by column.
 --   Written F x c k m m'   m' is m with F j in row x for the columns j from c to k − 1
-use mathlib.Core.Path.{◌≡◌, refl, ◌∙◌}
+use mathlib.Core.Path.{◌≡◌, ◌∙◌}
 use mathlib.Core.List.{List}
 use Prim.Native.Nat.{ℕ, ◌+◌, ◌*◌, ◌≤◌, ◌<◌}
 use native.Mathlib.Decide.{ℕ_discrete, dec_lt}
@@ -15,10 +15,6 @@ pub record Written (F : ℕ → ℕ) (x c k : ℕ) (m m' : List ℕ) : Type 0 wh
   pub done : (j : ℕ) → c ≤ j → j < k → entry m' x j ≡ F j
   pub before : (q : ℕ) → q < 16 * x + c → get_or m' q 0 ≡ get_or m q 0
   pub after : (q : ℕ) → 16 * x + k ≤ q → get_or m' q 0 ≡ get_or m q 0
-
-pub written_start : (F : ℕ → ℕ) (x c : ℕ) (m : List ℕ) → length m ≡ 256 → Written F x c c m m
-written_start F x c m s =
-    record { from = omega arith; size = s; done = λ j l g. absurd (omega arith); before = λ q l. refl; after = λ q l. refl }
 
 pub written_turn : (F : ℕ → ℕ) (x c k w : ℕ) (m m' : List ℕ) → Written F x c k m m' → 16 * x + k < 256 → w ≡ F k
     → Written F x c (k + 1) m (set m' (16 * x + k) w)

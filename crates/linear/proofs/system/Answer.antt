@@ -15,7 +15,7 @@ use Rattle.array.specs.Array.{row_product, Holds, Square}
 use Rattle.array.proofs.Words.{words_length, words_same, zeros_words}
 use Rattle.array.proofs.Padded.{array_length, words_at, holds_word}
 use Rattle.linear.specs.System.{Solves, Regular, Singular, Outcome}
-use Rattle.linear.specs.Elimination.{Identity, Reduced, SolvesTimes, Equivalent, Advanced, Pivot}
+use Rattle.linear.specs.Elimination.{Identity, Reduced, SolvesTimes, Equivalent, Advanced}
 
 nothing : (x : ℕ) → 0 * x ≡ 0
 nothing x = omega arith
@@ -91,9 +91,6 @@ pub walk_turn : (p q n c : ℕ) (m b m' b' x y : List ℕ) → q ≡ p → Advan
 walk_turn p q n c m b m' b' x y e A B =
     let C : Advanced p n (c + 1) m' b' x y = rw e at B in
     record { reduced = C.reduced; equivalent = equivalent_trans A.equivalent C.equivalent }
-
-pub no_pivot : (n c r : ℕ) (m : List ℕ) → Pivot n c m r → r ≡ n → Pivot n c m n
-no_pivot n c r m P e = rw e at P
 
 pub outcome_singular : (p n c : ℕ) (m b m' b' v : List ℕ) → Advanced p n c m b m' b' → Holds p n v → Singular p n m' (take n v) → Outcome p n m b false v
 outcome_singular p n c m b m' b' v A held S =

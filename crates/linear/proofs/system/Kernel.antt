@@ -30,23 +30,6 @@ fill_start p n c m small h =
       after = λ j l. get_or-set_other (replicate 16 0) c j 1 0 (omega arith) ∙ zero_beyond 16 j;
     }
 
-pub fill_turn : (p n c k w : ℕ) (m v : List ℕ) → n ≤ 16 → c < n → k < c → Filled p c k m v → w ≡ (0 + (p - entry m k c)) % p → Filled p c (k + 1) m (set v k w)
-fill_turn p n c k w m v small h l F e =
-    record {
-      size = length-set v k w ∙ F.size;
-      front = λ j g. go j g (ℕ_discrete j k);
-      one = get_or-set_other v k c w 0 (omega arith) ∙ F.one;
-      after = λ j g. get_or-set_other v k j w 0 (omega arith) ∙ F.after j g;
-    }
-  where
-    go : (j : ℕ) → j < k + 1 → Dec (j ≡ k) → get_or (set v k w) j 0 ≡ (0 + (p - entry m j c)) % p
-    go j g (yes d) = rw (d, get_or-set_same v k w 0 (omega (arith, F.size))) e
-    go j g (no d) = get_or-set_other v k j w 0 d ∙ F.front j (omega arith)
-
--- What the loop reads is below p.
-pub column_below : (p n c j : ℕ) (m : List ℕ) → Identity p n c m → c < n → j < c → entry m j c < p
-column_below p n c j m I h l = I.square.below j c (omega arith) h
-
 module _ (p n c k : ℕ) (m v : List ℕ) (prime : 2 ≤ p) (small : n ≤ 16) (column : c < n) (I : Identity p n c m) (P : Pivot n c m n) (F : Filled p c k m v) (full : c ≤ k)
   where
     kernel_below : (j : ℕ) → j < n → get_or v j 0 < p

@@ -1,7 +1,7 @@
 -- `by_elimination`: the solutions of the system are the u with u^p = z·u.
 use Rattle.matrix.proofs.FrobeniusMatrix.{frobenius_square}
 use Rattle.scalar.proofs.ShiftedMatrix.{zero_holds}
-use Rattle.frobenius.proofs.kernel.FrobeniusSystem.{kernel_square, kernel_is}
+use Rattle.frobenius.proofs.kernel.FrobeniusSystem.{kernel_square, kernel_of}
 use Rattle.frobenius.proofs.kernel.by_elimination.Goals as goal
 
 pub minus-requires-clause-square : goal.minus-requires-clause-square
@@ -14,4 +14,4 @@ pub solve-requires-clause-holds : goal.solve-requires-clause-holds
 solve-requires-clause-holds c = search zero_holds
 
 pub returns-clause-kernel : goal.returns-clause-kernel
-returns-clause-kernel c = search kernel_is
+returns-clause-kernel c = search kernel_of

@@ -3,8 +3,8 @@ use Rattle.std.proofs.Common.{rules}
 use Rattle.linear.proofs.Pivoting.{pivot_inverse, eliminated}
 use Rattle.linear.proofs.column.eliminate.Goals as goal
 
-pub scale-requires-clause-n_bound : goal.scale-requires-clause-n_bound
-scale-requires-clause-n_bound c = (search rules, search rules, search pivot_inverse)
+pub scale-requires-clause-inverse_of_pivot : goal.scale-requires-clause-inverse_of_pivot
+scale-requires-clause-inverse_of_pivot c = (search rules, search rules, search pivot_inverse)
 
 pub returns : goal.returns
 returns c = search eliminated

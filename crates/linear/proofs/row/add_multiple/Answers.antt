@@ -1,9 +1,8 @@
-use Rattle.std.proofs.Common.{rules}
 use Rattle.linear.proofs.row.RowLoop.{added_turn, added_end}
 use Rattle.linear.proofs.row.add_multiple.Goals as goal
 
 pub loop-j-preserved : goal.loop-j-preserved
-loop-j-preserved c = (search rules, search added_turn)
+loop-j-preserved c = search added_turn
 
 pub returns : goal.returns
 returns c = search added_end

@@ -3,17 +3,17 @@ use Rattle.scalar.proofs.ShiftedMatrix.{zero_holds}
 use Rattle.tower.proofs.equation.Answer.{system_square, regular_answer, fixed_answer, solved_answer}
 use Rattle.tower.proofs.equation.artin_schreier.Goals as goal
 
-pub solve-answer-requires-clause-square : goal.solve-answer-requires-clause-square
-solve-answer-requires-clause-square c = search system_square
+pub solve-requires-clause-square : goal.solve-requires-clause-square
+solve-requires-clause-square c = search system_square
 
-pub solve-answer-requires-clause-holds : goal.solve-answer-requires-clause-holds
-solve-answer-requires-clause-holds c = search zero_holds
+pub solve-requires-clause-holds : goal.solve-requires-clause-holds
+solve-requires-clause-holds c = search zero_holds
 
-pub returns-then-answer : goal.returns-then-answer
-returns-then-answer c = search regular_answer
+pub returns-in_default : goal.returns-in_default
+returns-in_default c = search (regular_answer, c.in_default.ensures.solution)
 
 pub returns-then-u-eq0 : goal.returns-then-u-eq0
-returns-then-u-eq0 c = search fixed_answer
+returns-then-u-eq0 c = search (fixed_answer, c.in-NullVector.ensures.solution)
 
 pub returns : goal.returns
-returns c = search solved_answer
+returns c = search (solved_answer, c.in-NullVector.ensures.solution)
