@@ -1,19 +1,28 @@
--- Answers of calls: a refused call gives back the value it took, and an accepted one the next value.
+-- Answers of calls: a refused call has the number of its refusal and gives back the value it took, and an accepted one gives the next value.
+--   refused_by, accepted   what the code answers, by the number
+--   answer_number, answer_keeps    the number, and the value of a refused call
+use Rattle.std.specs.Prelude.{Result, Ok}
+use Rattle.std.specs.Result.{IsErrAnd}
+use Rattle.std.proofs.lemmas.Result.{err_from_is_err_and}
 use mathlib.Core.Path.{◌≡◌, refl}
 use Prim.Native.Nat.{ℕ, zero, suc}
-use native.Mathlib.Omega.{arith}
-use Rattle.pairing.specs.Pairing.{answer}
+use Rattle.refusal.specs.Number.{number}
+use Rattle.refusal.specs.declared.number.Refusal.{Refusal}
 use Rattle.held.specs.declared.Held.{Held}
+use Rattle.pairing.specs.Pairing.{answer}
+use Rattle.pairing.specs.Step.{HeldStep, Answers}
 
-pub answer_refused : (k j : ℕ) (x y : Held) → k ≡ j → (k ≡ 0 → ⊥) → record { number = k; held = x } ≡ answer j y x
-unfolding answer
-answer_refused k zero x y e h = absurd (h e)
-answer_refused k (suc j) x y e h = rw e
+pub refused_by : (r : Result Held Refusal) (e : Refusal) (y : HeldStep) → IsErrAnd r (λ d. d ≡ e) → y.number ≡ number e → Answers r y
+refused_by r e y h f = let p = err_from_is_err_and r h in rw (p.1, p.2) f
 
-pub answer_accepted : (k j : ℕ) (x y z : Held) → k ≡ j → k ≡ 0 → z ≡ y → record { number = 0; held = z } ≡ answer j y x
+pub answer_number : (k : ℕ) (x y : Held) → (answer k y x).number ≡ k
 unfolding answer
-answer_accepted k zero x y z e h f = rw f
-answer_accepted k (suc j) x y z e h f = absurd (omega arith)
+answer_number zero x y = refl
+answer_number (suc k) x y = refl
+
+pub accepted : (k : ℕ) (x y z : Held) → k ≡ 0 → z ≡ y → Answers (Ok z) (answer k y x)
+unfolding answer
+accepted k x y z e f = rw e (refl, f)
 
 pub answer_keeps : (k : ℕ) (x y : Held) → ((answer k y x).number ≡ 0 → ⊥) → (answer k y x).held ≡ x
 unfolding answer

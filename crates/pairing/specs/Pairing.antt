@@ -9,7 +9,7 @@ use Rattle.pair.specs.Pair.{refuse_pair}
 use Rattle.finder.specs.Finder.{find_s, find_r, refuse_find}
 use Rattle.held.specs.Held.{View, empty, loaded, paired, view, loaded_held, paired_held}
 use Rattle.held.specs.declared.Held.{Held}
-use Rattle.pairing.specs.declared.HeldStep.{HeldStep}
+use Rattle.pairing.specs.Step.{HeldStep}
 
 unfoldable pub answer : ℕ → Held → Held → HeldStep
 answer zero next taken = record { number = 0; held = next }

@@ -1,79 +1,41 @@
 // Find: loaded to paired, with the finder's pair.
-ghost use Rattle.std.specs.Prelude.{true, [], ◌∷◌, ◌≡◌, length, take};
 ghost use Rattle.refusal.specs.Models.{Models};
-ghost use Rattle.held.specs.Held.{loaded, valid};
-ghost use Rattle.pairing.specs.Pairing.{find_from, find as find_of};
+ghost use Rattle.held.specs.Held.{loaded};
+ghost use Rattle.pairing.specs.Pairing.{find_from, find};
+ghost use Rattle.pairing.specs.Step.{Answers};
+ghost use Rattle.held.specs.declared.Held.{Held};
 
-use crate::HeldStep;
 use array::Word;
 use finder::find::find as find_into;
 use held::value::{front, paired};
 use held::view::counts_as;
 use held::{DEGREE, Held, State};
+use refusal::Refusal;
 
-// The answer where x counts as loaded with two models. The finder writes its pair into s and r.
-fn find_pair(
-    x: Held,
-    p: u32,
-    n: u32,
-    t1: &[Word],
-    t2: &[Word],
-    s: &mut [Word],
-    r: &mut [Word],
-) -> HeldStep
-    requires models { Models p n t1.now t2.now }
-    requires s_len { (length s.old ≡ n) × (length r.old ≡ n) }
-    ensures { result ≡ find_from (loaded p n t1.now t2.now) x }
+// The answer where a value counts as loaded with two models.
+fn find_pair(p: u32, n: u32, t1: &[Word], t2: &[Word]) -> Result<Held, Refusal>
+    requires { Models p n t1.now t2.now }
+    ensures { (x : Held) → Answers result (find_from (loaded p n t1.now t2.now) x) }
 {
-    let number = find_into(p, n, t1, t2, s, r);
-    if number != 0 {
-        return HeldStep {
-            number: number,
-            held: x,
-        };
-    }
-    let held = paired(p, n, t1, t2, s, r);
-    HeldStep {
-        number: 0,
-        held: held,
-    }
-}
-
-// The same with the first n words of arrays for the models.
-fn find_loaded(x: Held, p: u32, n: u32, t1: [Word; DEGREE], t2: [Word; DEGREE]) -> HeldStep
-    requires { valid p n (take n t1 ∷ take n t2 ∷ []) ≡ true }
-    ensures { result ≡ find_from (loaded p n (take n t1) (take n t2)) x }
-{
-    let k = n as usize;
     let mut s = [0; DEGREE];
     let mut r = [0; DEGREE];
-    find_pair(
-        x,
-        p,
-        n,
-        front(&t1, n),
-        front(&t2, n),
-        &mut s[..k],
-        &mut r[..k],
-    )
+    let s = &mut s[..n as usize];
+    let r = &mut r[..n as usize];
+    find_into(p, n, t1, t2, s, r)?;
+    Ok(paired(p, n, t1, t2, s, r))
 }
 
 // The models with the finder's pair: 21, 24, 5, 6, 7.
-pub fn find(x: Held) -> HeldStep
-    ensures { result ≡ find_of x }
+pub fn find(x: Held) -> Result<Held, Refusal>
+    ensures { Answers result (find x) }
 {
-    let state = counts_as(x);
-    let t1 = x.t1;
-    let t2 = x.t2;
-    match state {
-        State::Empty => HeldStep {
-            number: 21,
-            held: x,
-        },
-        State::Loaded => find_loaded(x, x.p, x.n, t1, t2),
-        State::Paired => HeldStep {
-            number: 24,
-            held: x,
-        },
+    match counts_as(x) {
+        State::Empty => Err(Refusal::Empty),
+        State::Loaded => {
+            let t1 = front(&x.t1, x.n);
+            let t2 = front(&x.t2, x.n);
+            find_pair(x.p, x.n, t1, t2)
+        }
+        State::Paired => Err(Refusal::Paired),
     }
 }

@@ -7,12 +7,3 @@
 pub mod find;
 pub mod load;
 pub mod propose;
-
-use held::Held;
-
-// A call's answer: 0 or the number of the refusal, and the next value.
-#[derive(Clone, Copy)]
-pub struct HeldStep {
-    pub number: u32,
-    pub held: Held,
-}

@@ -1,75 +1,44 @@
 // Propose S, R: loaded to paired, if the checker accepts.
-ghost use Rattle.std.specs.Prelude.{true, [], ◌∷◌, ◌≡◌, take};
 ghost use Rattle.refusal.specs.Models.{Models};
-ghost use Rattle.held.specs.Held.{loaded, valid};
-ghost use Rattle.pairing.specs.Pairing.{propose_from, propose as propose_of};
+ghost use Rattle.held.specs.Held.{loaded};
+ghost use Rattle.pairing.specs.Pairing.{propose_from, propose};
+ghost use Rattle.pairing.specs.Step.{Answers};
+ghost use Rattle.held.specs.declared.Held.{Held};
 
-use crate::HeldStep;
 use array::Word;
 use held::value::{front, paired};
 use held::view::counts_as;
-use held::{DEGREE, Held, State};
+use held::{Held, State};
 use pair::checker::check;
+use refusal::Refusal;
 
-// The answer where x counts as loaded with two models.
+// The answer where a value counts as loaded with two models.
 fn propose_pair(
-    x: Held,
     p: u32,
     n: u32,
     t1: &[Word],
     t2: &[Word],
     s: &[Word],
     r: &[Word],
-) -> HeldStep
+) -> Result<Held, Refusal>
     requires { Models p n t1.now t2.now }
-    ensures { result ≡ propose_from (loaded p n t1.now t2.now) x s.now r.now }
+    ensures { (x : Held) → Answers result (propose_from (loaded p n t1.now t2.now) x s.now r.now) }
 {
-    let number = check(p, n, t1, t2, s, r);
-    if number != 0 {
-        return HeldStep {
-            number: number,
-            held: x,
-        };
-    }
-    let held = paired(p, n, t1, t2, s, r);
-    HeldStep {
-        number: 0,
-        held: held,
-    }
-}
-
-// The same with the first n words of arrays for the models.
-fn propose_loaded(
-    x: Held,
-    p: u32,
-    n: u32,
-    t1: [Word; DEGREE],
-    t2: [Word; DEGREE],
-    s: &[Word],
-    r: &[Word],
-) -> HeldStep
-    requires { valid p n (take n t1 ∷ take n t2 ∷ []) ≡ true }
-    ensures { result ≡ propose_from (loaded p n (take n t1) (take n t2)) x s.now r.now }
-{
-    propose_pair(x, p, n, front(&t1, n), front(&t2, n), s, r)
+    check(p, n, t1, t2, s, r)?;
+    Ok(paired(p, n, t1, t2, s, r))
 }
 
 // The models with a pair that the checker accepts: 21, 24, 3, 4, 6, 7, 8.
-pub fn propose(x: Held, s: &[Word], r: &[Word]) -> HeldStep
-    ensures { result ≡ propose_of x s.now r.now }
+pub fn propose(x: Held, s: &[Word], r: &[Word]) -> Result<Held, Refusal>
+    ensures { Answers result (propose x s.now r.now) }
 {
-    let state = counts_as(x);
-    let t1 = x.t1;
-    let t2 = x.t2;
-    match state {
-        State::Empty => HeldStep {
-            number: 21,
-            held: x,
-        },
-        State::Loaded => propose_loaded(x, x.p, x.n, t1, t2, s, r),
-        State::Paired => HeldStep {
-            number: 24,
-            held: x,
-        },
+    match counts_as(x) {
+        State::Empty => Err(Refusal::Empty),
+        State::Loaded => {
+            let t1 = front(&x.t1, x.n);
+            let t2 = front(&x.t2, x.n);
+            propose_pair(x.p, x.n, t1, t2, s, r)
+        }
+        State::Paired => Err(Refusal::Paired),
     }
 }
