@@ -7,7 +7,7 @@ use lib.ListN.{length, replicate}
 use Rattle.array.specs.Words.{Words}
 use Rattle.card.specs.Card.{word_count, card_prime, card_degree, card_kind, card_words, read_number, read_prime, read_degree, read_kind, read_output}
 use Rattle.card.proofs.CardKinds.{kind_bounds, count_job, count_pair}
-use Rattle.card.proofs.Header.{degree_least, degree_most, word_count_lem}
+use Rattle.card.proofs.Header.{degree_least, degree_most, words_counted}
 use Rattle.card.proofs.Refusals.{Readable, readable}
 use Rattle.refusal.specs.Models.{Models, Given}
 use Rattle.answer.specs.Answer.{part, card_part}
@@ -50,7 +50,7 @@ module _ (ys : List ℕ) (number : ℕ) (e : number ≡ read_number ys (replicat
     module _ (k : ℕ) (h : k * card_degree ys + card_degree ys ≤ word_count (card_degree ys) (card_kind ys)) where
       pub part_is : part n words k ≡ card_part ys k
       unfolding card_part
-      part_is = rw (n_is, words_are) (part_front (card_degree ys) k (card_words ys) (replicate (64 - length (card_words ys)) 0) (omega (arith, word_count_lem ys)))
+      part_is = rw (n_is, words_are) (part_front (card_degree ys) k (card_words ys) (replicate (64 - length (card_words ys)) 0) (omega (arith, words_counted ys)))
 
       list_words : Words p n (part n words k)
       unfolding card_part

@@ -112,9 +112,9 @@ module _ (ys : List ℕ) where
   unfolding card_degree
   degree_least = omega arith
 
-  pub word_count_lem : length (card_words ys) ≡ word_count (card_degree ys) (card_kind ys)
+  pub words_counted : length (card_words ys) ≡ word_count (card_degree ys) (card_kind ys)
   unfolding card_words
-  word_count_lem = fields_length (unpacked ys) (header_bits (layout_at ys)) (width (card_prime ys)) (word_count (card_degree ys) (card_kind ys))
+  words_counted = fields_length (unpacked ys) (header_bits (layout_at ys)) (width (card_prime ys)) (word_count (card_degree ys) (card_kind ys))
 
   module _ (h : bad_header ys ≡ false) where
     whole : header_bits (layout_at ys) ≤ 8 * length ys

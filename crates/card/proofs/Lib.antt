@@ -8,6 +8,7 @@ pub mod Width
 pub mod CardKinds
 pub mod Header
 pub mod Refusals
+pub mod RefusedFields
 pub mod Written
 mod Read
 pub mod Theorem

@@ -68,6 +68,9 @@ word_at bs i w (suc count) (suc k) h =
     let e : i + w + k * w ≡ i + suc k * w = omega arith in
     word_at bs (i + w) w count k (le_of_suc-le-suc h) ∙ ap (λ m. field_at bs m w) e
 
+pub word_found : (bs : List ℕ) (i w count k r : ℕ) → k < count → r ≡ field_at bs (i + k * w) w → r ≡ get_or (fields_at bs i w count) k 0
+word_found bs i w count k r h e = e ∙ sym (word_at bs i w count k h)
+
 -- a byte is a field of eight bits
 pub byte_is_field : (ys : List ℕ) (k : ℕ) → k < length ys → get_or ys k 0 < 256 → field_at (unpacked ys) (8 * k) 8 ≡ get_or ys k 0
 unfolding unpacked

@@ -17,7 +17,7 @@ use Rattle.array.specs.Words.{Words}
 use Rattle.card.proofs.Zeros.{is_zero, all_zeros, all_append}
 use Rattle.card.proofs.Packed.{Bytes, unpacked-length, unpacked_words, unpacked_injective}
 use Rattle.card.proofs.Fields.{bits_of_field, bits_of_fields, zero_field}
-use Rattle.card.proofs.Header.{word_count_lem}
+use Rattle.card.proofs.Header.{words_counted}
 use Rattle.card.proofs.Written.{header-append, fill_count, unpacked-card, card_bytes}
 
 take_more : (n m i : ℕ) (bs : List ℕ) → take n (drop i bs) ++ take m (drop (i + n) bs) ≡ take (n + m) (drop i bs)
@@ -99,7 +99,7 @@ module _ (ys : List ℕ) (are_bytes : Bytes ys) (right : is_over (card_prime ys)
   bits_filling = all_zeros (drop used_bits (unpacked ys)) fill_parts.1 ∙ ap (λ k. replicate k 0) count
     where
       count : length (drop used_bits (unpacked ys)) ≡ fill_count (card_prime ys) (card_degree ys) (card_kind ys) (card_words ys)
-      count = length-drop used_bits (unpacked ys) ∙ rw (word_count_lem ys, right) (omega (arith, unpacked-length ys, long_enough))
+      count = length-drop used_bits (unpacked ys) ∙ rw (words_counted ys, right) (omega (arith, unpacked-length ys, long_enough))
 
   pub written_again : card (card_prime ys) (card_degree ys) (card_kind ys) (card_words ys) ≡ ys
   written_again =

@@ -17,7 +17,7 @@ use Rattle.refusal.specs.Refusal.{bad_prime, bad_degree, bad_length, bad_word}
 use Rattle.refusal.proofs.Lists.{words_of, lengths_given, given_lengths, below_given, words_given, given_words}
 use Rattle.refusal.proofs.Order.{refuse_none, prime_given, given_prime, degree_given, given_degree}
 use Rattle.card.specs.Card.{bad_kind, word_count, card_length, card_prime, card_degree, card_kind, card_words, bad_header, bad_layout, fill_bits, read_number, write_number}
-use Rattle.card.proofs.Header.{or-false_both, word_count_lem}
+use Rattle.card.proofs.Header.{or-false_both, words_counted}
 use Rattle.card.proofs.Zeros.{is_zero}
 
 pub record Writable (p n kind : ℕ) (words out : List ℕ) : Type 0 where
@@ -93,7 +93,7 @@ module _ (ys out : List ℕ) where
         kind_good = kind_good;
         size = eqb-true (length ys) (card_length (card_prime ys) (card_degree ys) (card_kind ys)) (not-false _ size);
         fill = not-false (all is_zero (fill_bits ys)) fill;
-        below = words_of (card_prime ys) (word_count (card_degree ys) (card_kind ys)) (card_words ys) (word_count_lem ys) (below_given (card_prime ys) (card_words ys ∷ []) below).0;
+        below = words_of (card_prime ys) (word_count (card_degree ys) (card_kind ys)) (card_words ys) (words_counted ys) (below_given (card_prime ys) (card_words ys ∷ []) below).0;
       }
 
   pub read_accepts : Readable ys out → read_number ys out ≡ 0

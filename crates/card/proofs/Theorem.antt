@@ -19,7 +19,7 @@ use Rattle.array.proofs.Words.{words_length}
 use Rattle.card.proofs.CardKinds.{kind_bounds, count_most}
 use Rattle.card.proofs.Refusals.{Writable, writable, write_accepts, Readable, readable, read_accepts}
 use Rattle.card.proofs.Written.{says_wide, says_prime, says_degree, says_kind, says_words, says_fill, fill_count, card-length, unpacked-card}
-use Rattle.card.proofs.Header.{layout_bounds, header_taken, layout_right, layout_taken, degree_least, degree_most, word_count_lem}
+use Rattle.card.proofs.Header.{layout_bounds, header_taken, layout_right, layout_taken, degree_least, degree_most, words_counted}
 use Rattle.card.proofs.Read.{written_again}
 
 -- the length that the writer asks for is the length of the card that it writes
@@ -109,7 +109,7 @@ read_is_written ys out lent are_bytes accepted room =
     answer (card_prime ys) (card_degree ys) (card_kind ys) (card_words ys) ys out accepted refl refl refl refl in
     result_is_written ys out lent are_bytes accepted room _ _ _ _ r.prime r.degree r.kind_is
     (rw (r.degree, r.kind_is, r.words_are)
-    (take_at (card_words ys) (replicate (64 - length (card_words ys)) 0) (word_count (card_degree ys) (card_kind ys)) (word_count_lem ys)))
+    (take_at (card_words ys) (replicate (64 - length (card_words ys)) 0) (word_count (card_degree ys) (card_kind ys)) (words_counted ys)))
 
 -- a card that is read is made of its result
 made_again : (ys out : List ℕ) → All (λ y. y < 256) ys → read_number ys out ≡ 0 → card (read_prime ys out) (read_degree ys out) (read_kind ys out) (read_words ys out) ≡ ys

@@ -1,13 +1,16 @@
--- The width of a card's words: the least w with p − 1 < 2^w. Up to 1,048,575 it is at most 20, and every number below p has w bits.
-use mathlib.Core.Path.{◌≡◌, ap}
+-- The width of a card's words: the least w with p − 1 < 2^w, which is the number of binary digits
+-- of p − 1. Up to 1,048,575 it is at most 20, and every number below p has w bits.
+use mathlib.Core.Path.{◌≡◌}
 use mathlib.Core.Bool.{Bool}
 use Prim.Native.Nat.{ℕ, zero, suc, ◌+◌, ◌-◌, ◌*◌, ◌/◌, ◌^◌, ◌≤◌, ◌<◌}
 use mathlib.Core.Logic.{◌⊎◌, inl, inr}
-use native.Mathlib.Nat.{le_antisymm, eq-or-lt_of_le, mul-le-mul, pow-suc}
-use native.Mathlib.Numerals.{add-one}
+use native.Mathlib.Nat.{le_antisymm, mul-le-mul, pow-suc}
 use native.Mathlib.Omega.{arith}
 use lib.Dec.{ltb, lit≤}
-use lib.Pow.{pow_pos}
+use lib.Pow.{pow_mono}
+use Rattle.std.specs.Int.Count.{count_leading_zeros}
+use Rattle.std.proofs.lemmas.Nat.{leading_length}
+use Rattle.std.proofs.lemmas.Bool.{cases_lt}
 use borrow.Author.Tests.{ltb-true, lt-ltb}
 use Rattle.algebra.specs.Lists.{range}
 use Rattle.algebra.proofs.Search.{range_bounds, range_member, first_found, first_smallest, Found}
@@ -49,16 +52,25 @@ pub bytes_are : (p count start w bits : ℕ) → start ≡ header_bits (layout (
     → (bits + 7) / 8 ≡ (header_bits (layout (is_over p)) + count * width p + 7) / 8
 bytes_are p count start w bits es ew eb = rw (eb, es, ew)
 
--- doubling a power of two until it is p or more
-pub width_next : (p w q : ℕ) → p ≤ largest_prime → q ≡ 2 ^ w → w ≤ width p → q < p → w + 1 ≤ width p
-width_next p w q h e l k = by_order (eq-or-lt_of_le l)
+-- 2^m is at most twice p − 1, and one more: so m is the least
+width_leading : (p m : ℕ) → p ≤ largest_prime → p - 1 < 2 ^ m → 2 ^ m ≤ 2 * (p - 1) + 1 → m ≡ width p
+width_leading p m h k l = le_antisymm (by_order (cases_lt (width p) m)) (width_least p m (small (cases_lt 20 m)) k)
   where
-    by_order : (w ≡ width p) ⊎ (w < width p) → w + 1 ≤ width p
-    by_order (inl f) = absurd (omega (arith, width_enough p h, ap (λ v. 2 ^ v) f))
-    by_order (inr f) = omega arith
+    by_order : (width p < m) ⊎ (m ≤ width p) → m ≤ width p
+    by_order (inl f) =
+        let doubled : 2 ^ suc (width p) ≤ 2 ^ m = pow_mono f in
+        absurd (omega (arith, doubled, pow-suc 2 (width p), width_enough p h))
+    by_order (inr f) = f
 
-pub width_reached : (p w q : ℕ) → q ≡ 2 ^ w → w ≤ width p → width p ≤ 20 → p ≤ q → w ≡ width p
-width_reached p w q e l m k = le_antisymm l (width_least p w (omega arith) (omega (arith, pow_pos w)))
+    small : (20 < m) ⊎ (m ≤ 20) → m ≤ 20
+    small (inl f) =
+        let more : 2 ^ 21 ≤ 2 ^ m = pow_mono f in
+        absurd (omega arith)
+    small (inr f) = f
 
-pub power_doubled : (w q : ℕ) → q ≡ 2 ^ w → q * 2 ≡ 2 ^ (w + 1)
-power_doubled w q e = rw (add-one, pow-suc) (ap (λ k. k * 2) e)
+-- the digits of p − 1 among 32
+pub width_digits : (p before : ℕ) → p ≤ largest_prime → before ≡ p - 1 → (32 - count_leading_zeros 32 before ≡ width p) × (32 - count_leading_zeros 32 before ≤ 20)
+width_digits p before h e =
+    let (m, sum, below, above) = leading_length 32 before (omega arith) in
+    let is : m ≡ width p = width_leading p m h (omega arith) (omega arith) in
+    (omega arith, omega (arith, width_most p h))

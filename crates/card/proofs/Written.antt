@@ -27,9 +27,9 @@ module _ (l : Layout) (p n kind : ℕ) where
   unfolding header
   header-append xs ys = simp append_assoc
 
-  header_bits_lem : {m : ℕ} {rest : List ℕ} → Words 2 m rest → Words 2 (header_bits l + m) (header l p n kind rest)
+  bits_of_header : {m : ℕ} {rest : List ℕ} → Words 2 m rest → Words 2 (header_bits l + m) (header l p n kind rest)
   unfolding header
-  header_bits_lem {m} {rest} b =
+  bits_of_header {m} {rest} b =
       let e : l.before + (l.digits + (4 + (4 + (l.after + m)))) ≡ header_bits l + m = omega arith in
       subst (λ k. Words 2 k (header l p n kind rest)) e
       (append_words (zeros_words l.before (lit< tt))
@@ -62,7 +62,7 @@ module _ (l : Layout) (p n kind : ℕ) where
   header_split rest = sym (header-append [] rest)
 
   pub header_place : (i : ℕ) → header_bits l + i ≡ length (header l p n kind []) + i
-  header_place i = omega (arith, words_length (header_bits_lem none))
+  header_place i = omega (arith, words_length (bits_of_header none))
 
   header_words : (rest : List ℕ) (w k : ℕ) → fields_at (header l p n kind rest) (header_bits l) w k ≡ fields_at rest 0 w k
   header_words rest w k = rw header_split (fields_skip (header l p n kind []) rest 0 (header_bits l) w k (omega (arith, header_place 0)))
@@ -142,7 +142,7 @@ module _ (p n kind : ℕ) (words : List ℕ) where
   fill_count = 8 * ((used + 7) / 8) - used
 
   card_bits : Words 2 used (header (layout (is_over p)) p n kind (all_bits (width p) words))
-  card_bits = header_bits_lem (layout (is_over p)) p n kind (all_bits_words (width p) words)
+  card_bits = bits_of_header (layout (is_over p)) p n kind (all_bits_words (width p) words)
 
   pub card-length : length (card p n kind words) ≡ (header_bits (layout (is_over p)) + length words * width p + 7) / 8
   unfolding card

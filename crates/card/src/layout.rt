@@ -2,7 +2,7 @@
 // they require.
 ghost use Rattle.std.specs.Prelude.{◌≡◌, ◌+◌, ◌*◌, ◌/◌, ◌%◌, ◌^◌, ◌≤◌, ◌<◌};
 ghost use Rattle.modular.specs.Prime.{largest_prime};
-ghost use Rattle.card.specs.Card.{layout, header_bits, is_over, width as width_of, word_count};
+ghost use Rattle.card.specs.Card.{layout, header_bits, is_over, width};
 
 // A header: zero bits, p, then n − 1 and kind in 4 bits each, and zero bits that count as fill.
 #[derive(Clone, Copy)]
@@ -12,7 +12,8 @@ pub struct Layout {
     pub after: usize,
 }
 
-// The header of a wide card, which has room for primes of twenty bits, or of a narrow one.
+// The header of a wide card, which has room for primes of twenty bits, or of a narrow one. `wide` is
+// a bool, since it is what one test says, of p in the writer and of 16 bits in the reader.
 pub fn layout_of(wide: bool) -> Layout
     ensures { (result ≡ layout wide) × (result.digits ≤ 20) × (result.after ≤ 4) × (result.before + result.digits + 8 + result.after ≤ 48) }
 {
@@ -49,28 +50,9 @@ pub fn digit(v: u32, k: u32) -> u32
 // The number of binary digits of p − 1: the words of a card have as many bits.
 pub fn width(p: u32) -> usize
     requires { p ≤ largest_prime }
-    ensures { (result ≡ width_of p) × (result ≤ 20) }
+    ensures { (result ≡ width p) × (result ≤ 20) }
 {
-    let mut w = 0;
-    let mut power = 1;
-    while power < p {
-        power = power * 2;
-        w += 1;
-    }
-    w
-}
-
-// How many words a card of this kind carries: T1 and T2 for a job, T1, T2, S and R for a pair card. Every other kind is refused: 0.
-pub fn word_count(n: u32, kind: u32) -> usize
-    requires { n ≤ 16 }
-    ensures { (result ≡ word_count n kind) × (result ≤ 64) }
-{
-    match kind {
-        1 => 2 * n as usize,
-        2 => 4 * n as usize,
-        0 | 3..=15 => 0,
-        _ => 0,
-    }
+    (u32::BITS - p.saturating_sub(1).leading_zeros()) as usize
 }
 
 // The bits of a card before those that fill the last byte: `start` of its header and `count` words of w bits.
@@ -84,7 +66,7 @@ pub fn bit_count(start: usize, w: usize, count: usize) -> usize
 // The bytes of the card of p with `count` words.
 pub fn byte_count(p: u32, count: usize) -> usize
     requires { (p ≤ largest_prime) × (count ≤ 64) }
-    ensures { (result ≡ (header_bits (layout (is_over p)) + count * width_of p + 7) / 8) × (result ≤ 166) }
+    ensures { (result ≡ (header_bits (layout (is_over p)) + count * width p + 7) / 8) × (result ≤ 166) }
 {
     (bit_count(header_bits(p > 65535), width(p), count) + 7) / 8
 }

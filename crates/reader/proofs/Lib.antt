@@ -1,4 +1,3 @@
--- Laws on which the proofs of the reader rest: fields by whole bytes, the list that is written, and the answers.
+-- Laws on which the proofs of the reader rest: fields by whole bytes, and the answers.
 mod WholeBytes
-mod Entries
 mod Answers

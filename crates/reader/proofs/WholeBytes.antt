@@ -6,9 +6,9 @@ use Prim.Native.Nat.{ℕ, suc, ◌+◌, ◌-◌, ◌*◌, ◌/◌, ◌%◌, ◌^
 use native.Mathlib.Nat.{pow-suc, mod-eq_of_lt, le_antisymm, lt_of_lt_of_le, div-lt_iff_lt-mul, add-mul-mod_self_right}
 use native.Mathlib.Decide.{dec_lt}
 use native.Mathlib.Omega.{arith}
-use lib.ListN.{length, get_or, take, drop}
+use lib.ListN.{length, get_or, take, drop, length-drop}
 use lib.Pow.{pow-add, pow_mono, pow_pos}
-use lib.Seq.{take-add, drop-drop}
+use lib.Seq.{take-add, drop-drop, get_or-take, get_or-drop, length-take-le}
 use mir.Syntax.{w32}
 use mir.Val.{Fits}
 use Rattle.array.specs.Words.{Words, none, more}
@@ -33,44 +33,57 @@ number_high (more {a = b} {n = k} {u = bs} l w) h =
     step h b x r = omega arith
 
 -- a field of two parts
-module _ {m : ℕ} {bs : List ℕ} (all_bits_lem : Words 2 m bs) (i a b : ℕ) (within : i + a + b ≤ m) where
+module _ {m : ℕ} {bs : List ℕ} (bits_are : Words 2 m bs) (i a b : ℕ) (within : i + a + b ≤ m) where
   field_parts : field_at bs i (a + b) ≡ field_at bs i a * 2 ^ b + field_at bs (i + a) b
   unfolding field_at
   field_parts =
       ap number (take-add a b (drop i bs) ∙ ap (λ (l : List ℕ). take a (drop i bs) ++ take b l) (drop-drop a i bs))
       ∙ number_from-append 0 (take a (drop i bs)) (take b (drop (i + a) bs))
-      ∙ number_high (take_words (drop_words all_bits_lem (i + a)) b (omega arith)) (number (take a (drop i bs)))
+      ∙ number_high (take_words (drop_words bits_are (i + a)) b (omega arith)) (number (take a (drop i bs)))
 
-module _ (ys : List ℕ) (first k value : ℕ) (so_far : value ≡ field_at (unpacked ys) (8 * first) (8 * (k - first))) (from : first ≤ k) where
-  -- a number of up to three bytes
-  bytes_small : k < first + 4 → k ≤ length ys → value < 2 ^ 24
-  bytes_small few to =
-      let short : 8 * (k - first) ≤ 24 = omega arith in
-      rw so_far (lt_of_lt_of_le (field_below (unpacked_words ys) (8 * first) (8 * (k - first)) (omega arith)) (pow_mono short))
+-- the value of the bytes before the index, in the part of the card that is gone over
+module _ (ys : List ℕ) (first end : ℕ) (from : first ≤ end) (few : end ≤ first + 4) (to : end ≤ length ys) (index value : ℕ) (so_far : value ≡ field_at (unpacked ys) (8 * first) (8 * index)) where
+  abbrev part : List ℕ
+  part = take (end - first) (drop first ys)
 
-  module _ (end : ℕ) (next : k < end) (few : end ≤ first + 4) (to : end ≤ length ys) where
+  part_length : length part ≡ end - first
+  part_length = length-take-le (end - first) (drop first ys) (omega (arith, length-drop first ys))
+
+  module _ (next : index < length part) where
+    inside : first + index < end
+    inside = omega (arith, part_length)
+
+    part_byte : get_or part index 0 ≡ get_or ys (first + index) 0
+    part_byte = get_or-take (end - first) (drop first ys) index 0 (omega (arith, part_length)) ∙ get_or-drop first ys index 0
+
+    -- a number of up to three bytes
+    bytes_small : value < 2 ^ 24
+    bytes_small =
+        let short : 8 * index ≤ 24 = omega (arith, inside) in
+        rw so_far (lt_of_lt_of_le (field_below (unpacked_words ys) (8 * first) (8 * index) (omega (arith, inside))) (pow_mono short))
+
     pub bytes_fit : Fits w32 (value * 256)
-    bytes_fit = record { fits = omega (arith, bytes_small (omega arith) (omega arith)) }
+    bytes_fit = record { fits = omega (arith, bytes_small) }
 
-    pub byte_fits_behind : get_or ys k 0 < 256 → Fits w32 (value * 256 + get_or ys k 0)
-    byte_fits_behind b = record { fits = omega (arith, bytes_small (omega arith) (omega arith)) }
+    module _ (byte : get_or ys (first + index) 0 < 256) where
+      pub byte_fits_behind : Fits w32 (value * 256 + get_or part index 0)
+      byte_fits_behind = record { fits = omega (arith, bytes_small, part_byte) }
 
-  pub bytes_turn : (end : ℕ) → k < end → end ≤ length ys → get_or ys k 0 < 256 → value * 256 + get_or ys k 0 ≡ field_at (unpacked ys) (8 * first) (8 * (k + 1 - first))
-  bytes_turn end next to b =
-      let more : 8 * (k - first) + 8 ≡ 8 * (k + 1 - first) = omega arith in
-      let place : 8 * first + 8 * (k - first) ≡ 8 * k = omega arith in
-      ap₂ (λ x y. x * 256 + y) so_far (sym (byte_is_field ys k (omega arith) b) ∙ ap (λ p. field_at (unpacked ys) p 8) (sym place))
-      ∙ sym (field_parts (unpacked_words ys) (8 * first) (8 * (k - first)) 8 (omega arith))
-      ∙ ap (field_at (unpacked ys) (8 * first)) more
+      pub bytes_turn : value * 256 + get_or part index 0 ≡ field_at (unpacked ys) (8 * first) (8 * (index + 1))
+      bytes_turn =
+          let more : 8 * index + 8 ≡ 8 * (index + 1) = omega arith in
+          let place : 8 * first + 8 * index ≡ 8 * (first + index) = omega arith in
+          ap₂ (λ x y. x * 256 + y) so_far
+          (part_byte ∙ sym (byte_is_field ys (first + index) (omega (arith, inside)) byte) ∙ ap (λ p. field_at (unpacked ys) p 8) (sym place))
+          ∙ sym (field_parts (unpacked_words ys) (8 * first) (8 * index) 8 (omega (arith, inside)))
+          ∙ ap (field_at (unpacked ys) (8 * first)) more
 
-  pub bytes_done : (end : ℕ) → k ≤ end → end ≤ k → value ≡ field_at (unpacked ys) (8 * first) (8 * (end - first))
-  bytes_done end l g = so_far ∙ ap (λ e. field_at (unpacked ys) (8 * first) (8 * (e - first))) (le_antisymm l g)
+  pub bytes_done : length part ≤ index → index ≤ length part → value ≡ field_at (unpacked ys) (8 * first) (8 * (end - first))
+  bytes_done l g = so_far ∙ ap (λ e. field_at (unpacked ys) (8 * first) (8 * e)) (le_antisymm g l ∙ part_length)
 
-pub no_bytes : (ys : List ℕ) (first : ℕ) → 0 ≡ field_at (unpacked ys) (8 * first) (8 * (first - first))
+pub no_bytes : (ys : List ℕ) (i : ℕ) → 0 ≡ field_at (unpacked ys) i (8 * 0)
 unfolding field_at number_from
-no_bytes ys first =
-    let none_left : 0 ≡ 8 * (first - first) = omega arith in
-    ap (λ w. field_at (unpacked ys) (8 * first) w) none_left
+no_bytes ys i = refl
 
 quotient : (q r d : ℕ) → r < d → (q * d + r) / d ≡ q
 quotient q r d l =

@@ -1,31 +1,34 @@
 // The reader of cards. Nothing is written before the last refusal is decided.
-ghost use Rattle.std.specs.Prelude.{◌≡◌, false, ◌&&◌, not, ◌++◌, ◌∷◌, [], ◌+◌, ◌-◌, ◌*◌, ◌/◌, ◌^◌, ◌≤◌, ◌<◌, ltb, eqb, length, get_or, drop, replicate};
+ghost use Rattle.std.specs.Prelude.{◌≡◌, false, ◌&&◌, not, ◌++◌, ◌∷◌, [], ◌+◌, ◌-◌, ◌*◌, ◌/◌, ◌^◌, ◌≤◌, ◌<◌, ltb, eqb, length, IfOk};
 ghost use Rattle.algebra.specs.Lists.{all};
 ghost use Rattle.array.specs.Words.{all_below};
 ghost use Rattle.modular.specs.Prime.{largest_prime};
+ghost use Rattle.refusal.specs.Number.{number_of};
 ghost use Rattle.refusal.specs.Refusal.{refuse, bad_word};
 ghost use Rattle.card.specs.Bits.{unpacked};
-ghost use Rattle.card.specs.Card.{layout, header_bits, width as width_of, field_at, fields_at, is_wide, card_prime, card_degree, card_kind, bad_header, fill_of, read_number, read_prime, read_degree, read_kind, read_output};
+ghost use Rattle.card.specs.Card.{layout, header_bits, width, field_at, fields_at, is_wide, card_prime, card_degree, card_kind, bad_header, fill_of, read_number, read_prime, read_degree, read_kind, read_output};
+ghost use Rattle.card.specs.Kind.{kind_number};
 
 use array::Word;
-use card::layout::{bit_count, digit, header_bits, layout_of, width, word_count};
+use card::kind::Kind;
+use card::layout::{bit_count, header_bits, layout_of, width};
 use modular::prime::is_prime;
+use refusal::Refusal;
 
-// What a card says: 0 or the number of the refusal, and p, n and kind, which are 0 where the card is refused.
-#[derive(Clone, Copy)]
-pub struct ReadCard {
-    pub number: u32,
+// What a card says.
+#[derive(Clone, Copy, Debug, PartialEq, Eq)]
+pub struct Card {
     pub p: u32,
     pub n: u32,
-    pub kind: u32,
+    pub kind: Kind,
 }
 
-// Bit i of the card.
-fn bit(card: &[u8], i: usize) -> u32
-    requires { i < 8 * length card.now }
-    ensures { (result ≡ get_or (unpacked card.now) i 0) × (result < 2) }
-{
-    digit(card[i / 8] as u32, 7 - (i % 8) as u32)
+// The fields of a header: p, n, and the number of the kind.
+#[derive(Clone, Copy)]
+struct Fields {
+    p: u32,
+    n: u32,
+    kind: u32,
 }
 
 // The number in the bytes from place `first` to before place `end`, of which there are at most four.
@@ -34,10 +37,8 @@ fn whole_bytes(card: &[u8], first: usize, end: usize) -> u32
     ensures { result ≡ field_at (unpacked card.now) (8 * first) (8 * (end - first)) }
 {
     let mut value = 0;
-    let mut k = first;
-    while k < end {
-        value = value * 256 + card[k] as u32;
-        k += 1;
+    for byte in &card[first..end] {
+        value = value * 256 + *byte as u32;
     }
     value
 }
@@ -64,29 +65,18 @@ fn is_wide(card: &[u8]) -> bool
 fn is_short(card: &[u8]) -> bool
     ensures { result ≡ bad_header card.now }
 {
-    if card.len() < 3 {
-        return true;
-    }
-    if !is_wide(card) {
-        return false;
-    }
-    card.len() < 6
+    card.len() < 3 || is_wide(card) && card.len() < 6
 }
 
 // Whether a p that has room in a narrow card stands in a wide one.
 fn is_misplaced(wide: bool, p: u32) -> bool
     ensures { result ≡ (wide && ltb p 65536) }
 {
-    if !wide {
-        return false;
-    }
-    p < 65536
+    wide && p < 65536
 }
 
-// What the header says: p, n and kind.
-fn header(card: &[u8], wide: bool) -> ReadCard
+fn header(card: &[u8], wide: bool) -> Fields
     requires { (wide ≡ is_wide card.now) × (bad_header card.now ≡ false) }
-    ensures number { result.number ≡ 0 }
     ensures prime { (result.p ≡ card_prime card.now) × (result.p ≤ largest_prime) }
     ensures degree { (result.n ≡ card_degree card.now) × (1 ≤ result.n) × (result.n ≤ 16) }
     ensures kind { result.kind ≡ card_kind card.now }
@@ -96,38 +86,18 @@ fn header(card: &[u8], wide: bool) -> ReadCard
     let p = field(card, l.before, l.digits);
     let n = field(card, place, 4) + 1;
     let kind = field(card, place + 4, 4);
-    ReadCard {
-        number: 0,
-        p,
-        n,
-        kind,
-    }
+    Fields { p, n, kind }
 }
 
-// Whether every bit from place i on is 0.
-fn zero_from(card: &[u8], i: usize) -> bool
-    requires { (length card.now ≤ 166) × (i ≤ 8 * length card.now) }
-    ensures { result ≡ all (λ b. eqb b 0) (drop i (unpacked card.now)) }
-{
-    let mut j = 0;
-    while i + j < 8 * card.len() {
-        if bit(card, i + j) != 0 {
-            return false;
-        }
-        j += 1;
-    }
-    true
-}
-
-// Whether the bits that count as fill are 0: those of the header after kind, and those from place `end` on.
+// Whether the bits that count as fill are 0: those of the header after kind, and those of the last byte from place `end` on.
 fn is_filled(card: &[u8], wide: bool, end: usize) -> bool
-    requires { (length card.now ≤ 166) × (header_bits (layout wide) ≤ end) × (end ≤ 8 * length card.now) }
+    requires { (end ≤ 1328) × (header_bits (layout wide) ≤ end) × (length card.now ≡ (end + 7) / 8) }
     ensures { result ≡ all (λ b. eqb b 0) (fill_of (layout wide) end (unpacked card.now)) }
 {
     let l = layout_of(wide);
     let between = field(card, l.before + l.digits + 8, l.after);
-    let last = zero_from(card, end);
-    (between == 0) & last
+    let last = field(card, end, 8 * card.len() - end);
+    (between == 0) & (last == 0)
 }
 
 // Word k, which follows the `start` bits of the header and k words of w bits.
@@ -143,115 +113,87 @@ fn words_below(card: &[u8], p: u32, start: usize, w: usize, count: usize) -> boo
     requires { (start ≤ 48) × (w ≤ 20) × (count ≤ 64) × (start + count * w ≤ 8 * length card.now) }
     ensures { result ≡ all_below p (fields_at (unpacked card.now) start w count) }
 {
-    let mut k = 0;
-    while k < count {
+    // A `for`: of `(0..count).all(..)` the check does not prove what it answers.
+    for k in 0..count {
         if word(card, start, w, k) >= p {
             return false;
         }
-        k += 1;
     }
     true
 }
 
-// What stands at place k of the lent words: word k, and 0 after the last.
-fn entry(card: &[u8], start: usize, w: usize, count: usize, k: usize) -> Word
-    requires { (start ≤ 48) × (w ≤ 20) × (count ≤ 64) × (start + count * w ≤ 8 * length card.now) × (k < 64) }
-    ensures { result ≡ get_or (fields_at (unpacked card.now) start w count ++ replicate (64 - count) 0) k 0 }
+// Writes the words of the card into as many lent ones.
+fn copy_words(card: &[u8], start: usize, w: usize, words: &mut [Word])
+    requires { (start ≤ 48) × (w ≤ 20) × (length words.old ≤ 64) × (start + length words.old * w ≤ 8 * length card.now) }
+    ensures { words.new ≡ fields_at (unpacked card.now) start w (length words.old) }
 {
-    if k < count {
-        word(card, start, w, k)
-    } else {
-        0
+    for (k, slot) in words.iter_mut().enumerate() {
+        *slot = word(card, start, w, k);
     }
 }
 
-// Writes the words of the card into the 64 lent words, the rest 0.
-fn copy_words(card: &[u8], start: usize, w: usize, count: usize, words: &mut [Word])
-    requires { (start ≤ 48) × (w ≤ 20) × (count ≤ 64) × (start + count * w ≤ 8 * length card.now) × (length words.old ≡ 64) }
-    ensures { words.new ≡ fields_at (unpacked card.now) start w count ++ replicate (64 - count) 0 }
-{
-    let mut k = 0;
-    while k < words.len() {
-        words[k] = entry(card, start, w, count, k);
-        k += 1;
-    }
-}
-
-// The refusals of what follows the header: 11 (length), 13, 4.
-fn body_fault(card: &[u8], wide: bool, p: u32, count: usize) -> u32
+// What follows the header is refused by 11 (length), 13, 4.
+fn body(card: &[u8], wide: bool, p: u32, count: usize) -> Result<(), Refusal>
     requires { (p ≤ largest_prime) × (count ≤ 64) }
-    ensures { result ≡
-        refuse 11 (not (eqb (length card.now) ((header_bits (layout wide) + count * width_of p + 7) / 8)))
-        (refuse 13 (not (all (λ b. eqb b 0) (fill_of (layout wide) (header_bits (layout wide) + count * width_of p) (unpacked card.now))))
-        (refuse 4 (bad_word p (fields_at (unpacked card.now) (header_bits (layout wide)) (width_of p) count ∷ [])) 0)) }
+    ensures { number_of result ≡
+        refuse 11 (not (eqb (length card.now) ((header_bits (layout wide) + count * width p + 7) / 8)))
+        (refuse 13 (not (all (λ b. eqb b 0) (fill_of (layout wide) (header_bits (layout wide) + count * width p) (unpacked card.now))))
+        (refuse 4 (bad_word p (fields_at (unpacked card.now) (header_bits (layout wide)) (width p) count ∷ [])) 0)) }
 {
     let w = width(p);
     let start = header_bits(wide);
     let end = bit_count(start, w, count);
     if card.len() != (end + 7) / 8 {
-        return 11;
+        return Err(Refusal::CardLength);
     }
-    let zeros = is_filled(card, wide, end);
-    let small = words_below(card, p, start, w, count);
-    if !zeros {
-        return 13;
+    if !is_filled(card, wide, end) {
+        return Err(Refusal::Fill);
     }
-    if !small {
-        return 4;
+    if !words_below(card, p, start, w, count) {
+        return Err(Refusal::Word);
     }
-    0
+    Ok(())
 }
 
-// The number of the first refusal that applies, or 0.
-fn fault(card: &[u8], words: &[Word]) -> u32
-    ensures { result ≡ read_number card.now words.now }
+// What the card says, or the first refusal that applies.
+fn accept(card: &[u8], words: &[Word]) -> Result<Card, Refusal>
+    ensures number { number_of result ≡ read_number card.now words.now }
+    ensures said { IfOk result (λ c. (c.p ≡ card_prime card.now) × (c.n ≡ card_degree card.now) × (kind_number c.kind ≡ card_kind card.now) × (c.n ≤ 16)) }
 {
     if words.len() != 64 {
-        return 3;
+        return Err(Refusal::Length);
     }
     if is_short(card) {
-        return 11;
+        return Err(Refusal::CardLength);
     }
     let wide = is_wide(card);
     let said = header(card, wide);
     if !is_prime(said.p) {
-        return 1;
+        return Err(Refusal::Prime);
     }
     if is_misplaced(wide, said.p) {
-        return 28;
+        return Err(Refusal::WideCard);
     }
-    let count = word_count(said.n, said.kind);
-    if count == 0 {
-        return 12;
-    }
-    body_fault(card, wide, said.p, count)
+    let kind = Kind::try_from(said.kind)?;
+    body(card, wide, said.p, kind.word_count(said.n))?;
+    Ok(Card {
+        p: said.p,
+        n: said.n,
+        kind,
+    })
 }
 
 // Reads a card: p, n and kind, and its words in card order into 64 lent words, the rest 0.
-pub fn read(card: &[u8], words: &mut [Word]) -> ReadCard
-    ensures number { result.number ≡ read_number card.now words.old }
-    ensures prime { result.p ≡ read_prime card.now words.old }
-    ensures degree { result.n ≡ read_degree card.now words.old }
-    ensures kind { result.kind ≡ read_kind card.now words.old }
+pub fn read(card: &[u8], words: &mut [Word]) -> Result<Card, Refusal>
+    ensures number { number_of result ≡ read_number card.now words.old }
+    ensures said { IfOk result (λ c. (c.p ≡ read_prime card.now words.old) × (c.n ≡ read_degree card.now words.old)
+        × (kind_number c.kind ≡ read_kind card.now words.old)) }
     ensures words { words.new ≡ read_output card.now words.old }
 {
-    let number = fault(card, words);
-    if number != 0 {
-        return ReadCard {
-            number,
-            p: 0,
-            n: 0,
-            kind: 0,
-        };
-    }
-    let wide = is_wide(card);
-    let said = header(card, wide);
-    copy_words(
-        card,
-        header_bits(wide),
-        width(said.p),
-        word_count(said.n, said.kind),
-        words,
-    );
-    said
+    let said = accept(card, words)?;
+    let start = header_bits(is_wide(card));
+    let (given, rest) = words.split_at_mut(said.kind.word_count(said.n));
+    copy_words(card, start, width(said.p), given);
+    rest.fill(0);
+    Ok(said)
 }

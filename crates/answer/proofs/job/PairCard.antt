@@ -20,11 +20,11 @@ module _ (p n : ℕ) (words : List ℕ) (h : write_number p n 2 words (replicate
   pub prime_fits : p ≤ largest_prime
   prime_fits = fit.small
 
-  word_count_lem : length words ≡ 4 * n
-  word_count_lem = words_length fit.below
+  words_counted : length words ≡ 4 * n
+  words_counted = words_length fit.below
 
   pub words_few : length words ≤ 64
-  words_few = omega (arith, word_count_lem, fit.high)
+  words_few = omega (arith, words_counted, fit.high)
 
   -- the writer takes every list of the card's length
   accepted : (out : List ℕ) → length out ≡ card_length p n 2 → write_number p n 2 words out ≡ 0
@@ -43,7 +43,7 @@ module _ (p n : ℕ) (words : List ℕ) (h : write_number p n 2 words (replicate
   module _ (size : ℕ) (out : List ℕ) (es : size ≡ (header_bits (layout (is_over p)) + length words * width p + 7) / 8) (room : length out ≡ 166) where
     size_is : size ≡ card_length p n 2
     unfolding card_length
-    size_is = es ∙ rw word_count_lem
+    size_is = es ∙ rw words_counted
 
     size_most : size ≤ 166
     size_most = rw size_is (longest_card.0 p n 2 words (replicate (card_length p n 2) 0) h).1

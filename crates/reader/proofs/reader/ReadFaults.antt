@@ -17,9 +17,14 @@ use Rattle.card.specs.Card.{layout, header_bits, is_over, width, bad_kind, word_
 use Rattle.refusal.proofs.Lists.{given_lengths}
 use Rattle.card.proofs.Zeros.{is_zero}
 use Rattle.card.proofs.OneList.{bad_length_one, bad_word_one}
-use Rattle.card.proofs.CardKinds.{none_refused, some_good}
+use Rattle.card.proofs.CardKinds.{kind_taken, kind_refused}
 use Rattle.card.proofs.Header.{layout_right}
+use Rattle.card.specs.Kind.{kind_number}
+use Rattle.card.specs.declared.kind.Kind.{Kind}
 use Rattle.card.specs.declared.layout.Layout.{Layout}
+use Rattle.refusal.specs.Number.{number as refusal_number}
+use Rattle.refusal.specs.declared.number.Refusal.{Refusal}
+use Rattle.refusal.specs.declared.number.Refusal.TheVariants as R
 
 abbrev body_number : List ℕ → Layout → ℕ → ℕ → ℕ
 body_number ys l p count =
@@ -54,28 +59,22 @@ module _ (ys : List ℕ) (wide : Bool) (p count w start end : ℕ) (ew : w ≡ w
 -- the tests of the header
 
 module _ (ys : List ℕ) where
-  pub short_bytes : length ys < 3 → true ≡ bad_header ys
+  pub short_bytes : length ys < 3 → ltb (length ys) 3 ≡ bad_header ys
   unfolding bad_header
   short_bytes h = rw (lt-ltb (length ys) 3 h)
 
   module _ (long : 3 ≤ length ys) (wide : Bool) (e : wide ≡ is_wide ys) where
-    pub narrow_there : not wide ≡ true → false ≡ bad_header ys
+    pub wide_decides : wide ≡ true → ltb (length ys) 6 ≡ bad_header ys
     unfolding bad_header
-    narrow_there h = rw (le-ltb (length ys) 3 long, ← e, not-true wide h)
+    wide_decides h = rw (le-ltb (length ys) 3 long, ← e, h)
 
-    pub wide_decides : not wide ≡ false → ltb (length ys) 6 ≡ bad_header ys
+    pub narrow_there : wide ≡ false → wide ≡ bad_header ys
     unfolding bad_header
-    wide_decides h = rw (le-ltb (length ys) 3 long, ← e, not-false wide h)
+    narrow_there h = rw (le-ltb (length ys) 3 long, ← e, h)
 
 pub wide_test : (ys : List ℕ) (r : ℕ) → r ≡ field_at (unpacked ys) 0 16 → eqb r 0 ≡ is_wide ys
 unfolding is_wide
 wide_test ys r e = ap (λ k. eqb k 0) e
-
-pub not_misplaced : (wide : Bool) (p : ℕ) → not wide ≡ true → false ≡ (wide && ltb p 65536)
-not_misplaced wide p h = rw (not-true wide h)
-
-pub misplaced_decides : (wide : Bool) (p : ℕ) → not wide ≡ false → ltb p 65536 ≡ (wide && ltb p 65536)
-misplaced_decides wide p h = rw (not-false wide h)
 
 module _ (ys out : List ℕ) where
   pub read_room : (length out ≡ 64 → ⊥) → 3 ≡ read_number ys out
@@ -88,11 +87,11 @@ module _ (ys out : List ℕ) where
     read_short h = rw (given_lengths 64 (out ∷ []) (room, tt), ← e, h)
 
     module _ (there : short ≡ false) (p : ℕ) (b : Bool) (ep : p ≡ card_prime ys) (eb : b ≡ is_prime p) where
-      pub read_prime_lem : not b ≡ true → 1 ≡ read_number ys out
+      pub read_nonprime : not b ≡ true → 1 ≡ read_number ys out
       unfolding read_number bad_prime
-      read_prime_lem h = rw (given_lengths 64 (out ∷ []) (room, tt), ← e, there, ← ep, ← eb, h)
+      read_nonprime h = rw (given_lengths 64 (out ∷ []) (room, tt), ← e, there, ← ep, ← eb, h)
 
-      module _ (prime : not b ≡ false) (wide misplaced : Bool) (f : wide ≡ is_wide ys) (em : misplaced ≡ (wide && ltb p 65536)) where
+      module _ (prime : b ≡ true) (wide misplaced : Bool) (f : wide ≡ is_wide ys) (em : misplaced ≡ (wide && ltb p 65536)) where
         is_misplaced : misplaced ≡ bad_layout ys
         unfolding bad_layout
         is_misplaced = em ∙ ap₂ (λ a k. a && ltb k 65536) f ep
@@ -101,7 +100,7 @@ module _ (ys out : List ℕ) where
         unfolding read_number bad_prime
         read_layout h = rw (given_lengths 64 (out ∷ []) (room, tt), ← e, there, ← ep, ← eb, prime, ← is_misplaced, h)
 
-        module _ (placed : misplaced ≡ false) (n kind count : ℕ) (en : n ≡ card_degree ys) (ek : kind ≡ card_kind ys) (counted : count ≡ word_count n kind) where
+        module _ (placed : misplaced ≡ false) (n number : ℕ) (en : n ≡ card_degree ys) (ek : number ≡ card_kind ys) where
           layout_is : is_over p ≡ wide
           layout_is =
               ap is_over ep
@@ -109,12 +108,14 @@ module _ (ys out : List ℕ) where
               ∙ sym f
 
           -- with the header in order, the kind decides and then the body
-          after_layout : read_number ys out ≡ refuse 12 (bad_kind kind) (body_number ys (layout wide) p (word_count n kind))
+          after_layout : read_number ys out ≡ refuse 12 (bad_kind number) (body_number ys (layout wide) p (word_count n number))
           unfolding read_number bad_prime card_words card_length fill_bits
           after_layout = rw (given_lengths 64 (out ∷ []) (room, tt), ← e, there, ← ep, ← eb, prime, ← is_misplaced, placed, ← en, ← ek, ← f, layout_is)
 
-          pub read_kind_lem : 1 ≤ n → count ≡ 0 → 12 ≡ read_number ys out
-          read_kind_lem low h = rw (after_layout, none_refused n kind low (sym counted ∙ h))
+          pub read_unknown : (r : Refusal) → r ≡ R.Kind → (number ≡ 1 → ⊥) → (number ≡ 2 → ⊥) → refusal_number r ≡ read_number ys out
+          read_unknown r er g h = rw (after_layout, kind_refused number g h, er)
 
-          pub read_body : (r : ℕ) → (count ≡ 0 → ⊥) → r ≡ body_number ys (layout wide) p count → r ≡ read_number ys out
-          read_body r h g = rw (after_layout, some_good n kind (λ z. h (counted ∙ z)), ← counted) g
+          pub read_body : (kind : Kind) (count r : ℕ) → kind_number kind ≡ number → count ≡ word_count n (kind_number kind) → r ≡ body_number ys (layout wide) p count
+              → r ≡ read_number ys out
+          read_body kind count r ken counted g =
+              rw (after_layout, kind_taken kind number ken) (g ∙ ap (body_number ys (layout wide) p) (counted ∙ ap (word_count n) ken))

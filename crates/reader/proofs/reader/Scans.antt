@@ -1,18 +1,16 @@
--- The reader's tests of every fill bit and of every word, each a scan from the front.
+-- The reader's tests: of the bits that count as fill, by the fields that they are, and of every word, from the front.
 use mathlib.Core.Path.{◌≡◌, refl, sym, ap, ap₂, ◌∙◌}
 use mathlib.Core.Bool.{Bool, true, false, ◌&&◌, false≢true}
-use mathlib.Core.List.{List}
-use Prim.Native.Nat.{ℕ, suc, ◌+◌, ◌-◌, ◌*◌, ◌≤◌, ◌<◌}
-use native.Mathlib.Nat.{mul-le-mul_right}
+use mathlib.Core.List.{List, ◌++◌}
+use Prim.Native.Nat.{ℕ, ◌+◌, ◌-◌, ◌*◌, ◌/◌, ◌≤◌, ◌<◌}
 use native.Mathlib.Omega.{arith}
 use lib.Dec.{eqb}
-use lib.ListN.{length, get_or, take, drop, replicate, length-drop}
-use lib.Seq.{get_or-drop, length-take-le}
+use lib.ListN.{length, take, drop, replicate, length-drop}
+use lib.Seq.{length-take-le, take_all}
 use borrow.Author.Tests.{eq-eqb, ne_eqb}
 use Rattle.algebra.specs.Lists.{all}
 use Rattle.array.specs.Words.{all_below}
 use Rattle.array.proofs.Below.{below_next, below_fails, below_holds}
-use Rattle.algebra.proofs.Scan.{scan_next, scan_fails, scan_holds}
 use Rattle.card.specs.Bits.{unpacked}
 use Rattle.card.specs.Card.{layout, header_bits, field_at, fields_at, fill_of}
 use Rattle.card.specs.declared.layout.Layout.{Layout}
@@ -21,62 +19,46 @@ use Rattle.card.proofs.Packed.{unpacked-length, unpacked_words}
 use Rattle.card.proofs.Fields.{fields_length, zero_field, field_zero}
 use Rattle.card.proofs.Places.{word_at}
 
-module _ (ys : List ℕ) (i j : ℕ) (so_far : all is_zero (drop i (unpacked ys)) ≡ all is_zero (drop j (drop i (unpacked ys)))) where
-  fill_length : length (drop i (unpacked ys)) ≡ 8 * length ys - i
-  fill_length = length-drop i (unpacked ys) ∙ ap (λ k. k - i) (unpacked-length ys)
+-- a field is 0 where its bits are
+module _ (ys : List ℕ) (i w : ℕ) (fits : i + w ≤ 8 * length ys) where
+  bits_of : List ℕ
+  bits_of = take w (drop i (unpacked ys))
 
-  pub zero_next : (b : ℕ) → i + j < 8 * length ys → b ≡ get_or (unpacked ys) (i + j) 0 → b ≡ 0 → all is_zero (drop i (unpacked ys)) ≡ all is_zero (drop (j + 1) (drop i (unpacked ys)))
-  zero_next b h e z = scan_next is_zero (drop i (unpacked ys)) j so_far (omega (arith, fill_length)) (eq-eqb _ 0 (get_or-drop i (unpacked ys) j 0 ∙ sym e ∙ z))
+  bits_size : length bits_of ≡ w
+  unfolding bits_of
+  bits_size = length-take-le w (drop i (unpacked ys)) (omega (arith, unpacked-length ys, length-drop i (unpacked ys)))
 
-  pub zero_fails : (b : ℕ) → i + j < 8 * length ys → b ≡ get_or (unpacked ys) (i + j) 0 → (b ≡ 0 → ⊥) → false ≡ all is_zero (drop i (unpacked ys))
-  zero_fails b h e z =
-      scan_fails is_zero (drop i (unpacked ys)) j so_far (omega (arith, fill_length)) (ne_eqb _ 0 (λ f. z (e ∙ sym (get_or-drop i (unpacked ys) j 0) ∙ f)))
+  field_test : (r : ℕ) → r ≡ field_at (unpacked ys) i w → eqb r 0 ≡ all is_zero bits_of
+  unfolding bits_of
+  field_test r f = by_test (all is_zero bits_of) refl
+    where
+      by_test : (b : Bool) → all is_zero bits_of ≡ b → eqb r 0 ≡ b
+      by_test true t = eq-eqb r 0 (f ∙ field_zero (unpacked_words ys) i w fits (all_zeros bits_of t ∙ ap (λ k. replicate k 0) bits_size))
+      by_test false t = ne_eqb r 0 (λ h. false≢true (sym t ∙ ap (all is_zero) (zero_field (unpacked_words ys) i w fits (sym f ∙ h)) ∙ zeros_pass w))
 
-  pub zero_holds : 8 * length ys ≤ i + j → true ≡ all is_zero (drop i (unpacked ys))
-  zero_holds h = scan_holds is_zero (drop i (unpacked ys)) j so_far (omega (arith, fill_length))
-
--- the zero bits after kind, and then the others
-module _ (ys : List ℕ) (wide : Bool) (l : Layout) (end : ℕ) (e : l ≡ layout wide) (there : header_bits (layout wide) ≤ end) (fits : end ≤ 8 * length ys) where
+-- the zero bits after kind, and those of the last byte behind the words
+module _ (ys : List ℕ) (wide : Bool) (l : Layout) (end : ℕ) (e : l ≡ layout wide) (there : header_bits (layout wide) ≤ end) (long : length ys ≡ (end + 7) / 8) where
   pub after_place : l.before + l.digits + 8 + l.after ≤ 8 * length ys
   after_place = rw e (omega arith)
 
-  module _ (r : ℕ) (f : r ≡ field_at (unpacked ys) (l.before + l.digits + 8) l.after) where
-    after_zeros : List ℕ
-    after_zeros = take (layout wide).after (drop ((layout wide).before + (layout wide).digits + 8) (unpacked ys))
+  pub last_place : end + (8 * length ys - end) ≤ 8 * length ys
+  last_place = omega arith
 
-    after_field : r ≡ field_at (unpacked ys) ((layout wide).before + (layout wide).digits + 8) (layout wide).after
-    after_field = f ∙ ap (λ (x : Layout). field_at (unpacked ys) (x.before + x.digits + 8) x.after) e
+  pub last_few : 8 * length ys - end ≤ 20
+  last_few = omega arith
 
-    parts : all is_zero (fill_of (layout wide) end (unpacked ys)) ≡ (all is_zero after_zeros && all is_zero (drop end (unpacked ys)))
-    unfolding fill_of after_zeros
-    parts = all_append is_zero after_zeros (drop end (unpacked ys))
+  last_bits : take (8 * length ys - end) (drop end (unpacked ys)) ≡ drop end (unpacked ys)
+  last_bits = take_all (8 * length ys - end) (drop end (unpacked ys)) (omega (arith, length-drop end (unpacked ys), unpacked-length ys))
 
-    after_size : length after_zeros ≡ (layout wide).after
-    unfolding after_zeros
-    after_size =
-        length-take-le (layout wide).after (drop ((layout wide).before + (layout wide).digits + 8) (unpacked ys))
-        (omega (arith, unpacked-length ys, length-drop ((layout wide).before + (layout wide).digits + 8) (unpacked ys)))
-
-    after_test : eqb r 0 ≡ all is_zero after_zeros
-    unfolding after_zeros
-    after_test = by_test (all is_zero after_zeros) refl
-      where
-        by_test : (b : Bool) → all is_zero after_zeros ≡ b → eqb r 0 ≡ b
-        by_test true t =
-            eq-eqb r 0
-            (after_field
-            ∙ field_zero (unpacked_words ys) ((layout wide).before + (layout wide).digits + 8) (layout wide).after (omega arith)
-            (all_zeros after_zeros t ∙ ap (λ k. replicate k 0) after_size))
-        by_test false t =
-            ne_eqb r 0
-            (λ h. false≢true
-            (sym t
-            ∙ ap (all is_zero)
-            (zero_field (unpacked_words ys) ((layout wide).before + (layout wide).digits + 8) (layout wide).after (omega arith) (sym after_field ∙ h))
-            ∙ zeros_pass (layout wide).after))
-
-    pub fill_tested : (z : Bool) → z ≡ all is_zero (drop end (unpacked ys)) → (eqb r 0 && z) ≡ all is_zero (fill_of (layout wide) end (unpacked ys))
-    fill_tested z ez = ap₂ ◌&&◌ after_test ez ∙ sym parts
+  pub fill_tested : (r s : ℕ) → r ≡ field_at (unpacked ys) (l.before + l.digits + 8) l.after → s ≡ field_at (unpacked ys) end (8 * length ys - end)
+      → (eqb r 0 && eqb s 0) ≡ all is_zero (fill_of (layout wide) end (unpacked ys))
+  unfolding fill_of bits_of
+  fill_tested r s f g =
+      ap₂ ◌&&◌
+      (field_test ys (l.before + l.digits + 8) l.after after_place r f)
+      (field_test ys end (8 * length ys - end) last_place s g ∙ ap (all is_zero) last_bits)
+      ∙ sym (all_append is_zero (take l.after (drop (l.before + l.digits + 8) (unpacked ys))) (drop end (unpacked ys)))
+      ∙ ap (λ (x : Layout). all is_zero (take x.after (drop (x.before + x.digits + 8) (unpacked ys)) ++ drop end (unpacked ys))) e
 
 module _ (ys : List ℕ) (p start w count k : ℕ) (so_far : all_below p (fields_at (unpacked ys) start w count) ≡ all_below p (drop k (fields_at (unpacked ys) start w count))) where
   pub words_next : (v : ℕ) → k < count → v ≡ field_at (unpacked ys) (start + k * w) w → v < p
@@ -90,12 +72,3 @@ module _ (ys : List ℕ) (p start w count k : ℕ) (so_far : all_below p (fields
 
   pub words_hold : count ≤ k → true ≡ all_below p (fields_at (unpacked ys) start w count)
   words_hold h = below_holds p (fields_at (unpacked ys) start w count) k so_far (omega (arith, fields_length (unpacked ys) start w count))
-
-pub field_place : (bs : List ℕ) (i place w r : ℕ) → place ≡ i → r ≡ field_at bs place w → r ≡ field_at bs i w
-field_place bs i place w r e h = h ∙ ap (λ k. field_at bs k w) e
-
--- word k ends before the end
-pub place_fits : (m start w count k : ℕ) → start + count * w ≤ m → k < count → start + k * w + w ≤ m
-place_fits m start w count k fits h =
-    let most : suc k * w ≤ count * w = mul-le-mul_right w h in
-    omega arith

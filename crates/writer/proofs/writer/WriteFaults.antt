@@ -1,6 +1,6 @@
 -- The writer's refusals in their order: at each return of the code the conditions before it do not apply and its own does.
 use mathlib.Core.Path.{◌≡◌, sym, ap, ◌∙◌}
-use mathlib.Core.Bool.{Bool, true, false, ◌||◌, not}
+use mathlib.Core.Bool.{Bool, true, ◌||◌, not}
 use mathlib.Core.List.{List, [], ◌∷◌}
 use Prim.Native.Nat.{ℕ, ◌+◌, ◌*◌, ◌/◌, ◌≤◌}
 use lib.ListN.{length}
@@ -9,45 +9,51 @@ use Rattle.modular.specs.Prime.{largest_prime, is_prime}
 use Rattle.array.specs.Words.{all_below}
 use Rattle.refusal.specs.Refusal.{refuse, bad_prime, is_degree, bad_degree, bad_length, bad_word}
 use Rattle.card.specs.Card.{layout, header_bits, is_over, width, bad_kind, word_count, card_length, write_number}
+use Rattle.card.specs.Kind.{kind_number}
+use Rattle.card.specs.declared.kind.Kind.{Kind}
+use Rattle.refusal.specs.Number.{number}
+use Rattle.refusal.specs.declared.number.Refusal.{Refusal}
+use Rattle.refusal.specs.declared.number.Refusal.TheVariants as R
 use Rattle.refusal.proofs.Order.{prime_bounds, degree_given}
 use Rattle.refusal.proofs.Lists.{given_lengths}
 use Rattle.card.proofs.OneList.{bad_length_one, bad_word_one}
-use Rattle.card.proofs.CardKinds.{none_refused, some_good}
+use Rattle.card.proofs.CardKinds.{kind_taken, kind_refused}
 
-pub prime_most : (p : ℕ) (b : Bool) → b ≡ is_prime p → not b ≡ false → p ≤ largest_prime
+pub prime_most : (p : ℕ) (b : Bool) → b ≡ is_prime p → b ≡ true → p ≤ largest_prime
 unfolding bad_prime
-prime_most p b e h = (prime_bounds p (ap not (sym e) ∙ h)).1
+prime_most p b e h = (prime_bounds p (ap not (sym e ∙ h))).1
 
-pub degree_most : (n : ℕ) (b : Bool) → b ≡ is_degree n → not b ≡ false → n ≤ 16
+pub degree_most : (n : ℕ) (b : Bool) → b ≡ is_degree n → b ≡ true → n ≤ 16
 unfolding bad_degree
-degree_most n b e h = (degree_given n (ap not (sym e) ∙ h)).1
+degree_most n b e h = (degree_given n (ap not (sym e ∙ h))).1
 
 module _ (p n kind : ℕ) (words out : List ℕ) (b : Bool) (eb : b ≡ is_prime p) where
   pub write_prime : not b ≡ true → 1 ≡ write_number p n kind words out
   unfolding write_number bad_prime
   write_prime h = rw (← eb, h)
 
-  module _ (prime : not b ≡ false) (d : Bool) (ed : d ≡ is_degree n) where
+  module _ (prime : b ≡ true) (d : Bool) (ed : d ≡ is_degree n) where
     pub write_degree : not d ≡ true → 2 ≡ write_number p n kind words out
     unfolding write_number bad_prime bad_degree
     write_degree h = rw (← eb, prime, ← ed, h)
 
-    module _ (degree : not d ≡ false) (count : ℕ) (counted : count ≡ word_count n kind) where
+    module _ (degree : d ≡ true) where
       -- with p and n in order, the kind decides and then the lengths
       after_degree : write_number p n kind words out
           ≡ refuse 12 (bad_kind kind) (refuse 3 (bad_length (word_count n kind) (words ∷ []) || bad_length (card_length p n kind) (out ∷ [])) (refuse 4 (bad_word p (words ∷ [])) 0))
       unfolding write_number bad_prime bad_degree
       after_degree = rw (← eb, prime, ← ed, degree)
 
-      pub write_kind : count ≡ 0 → 12 ≡ write_number p n kind words out
-      unfolding bad_degree
-      write_kind h = rw (after_degree, none_refused n kind (degree_given n (ap not (sym ed) ∙ degree)).0 (sym counted ∙ h))
+      pub write_kind : (r : Refusal) → r ≡ R.Kind → (kind ≡ 1 → ⊥) → (kind ≡ 2 → ⊥) → number r ≡ write_number p n kind words out
+      write_kind r er f g = rw (after_degree, kind_refused kind f g, er)
 
-      module _ (some : count ≡ 0 → ⊥) where
+      module _ (taken : Kind) (ek : kind_number taken ≡ kind) (count : ℕ) (counted : count ≡ word_count n (kind_number taken)) where
         after_kind : write_number p n kind words out
             ≡ refuse 3 (bad_length count (words ∷ []) || bad_length ((header_bits (layout (is_over p)) + count * width p + 7) / 8) (out ∷ [])) (refuse 4 (bad_word p (words ∷ [])) 0)
         unfolding card_length
-        after_kind = after_degree ∙ rw (some_good n kind (λ z. some (counted ∙ z)), ← counted)
+        after_kind =
+            let is : count ≡ word_count n kind = counted ∙ ap (word_count n) ek in
+            after_degree ∙ rw (kind_taken taken kind ek, ← is)
 
         pub write_count : (length words ≡ count → ⊥) → 3 ≡ write_number p n kind words out
         write_count h = rw (after_kind, bad_length_one count words, ne_eqb (length words) count h)
@@ -65,5 +71,5 @@ module _ (p n kind : ℕ) (words out : List ℕ) (b : Bool) (eb : b ≡ is_prime
             pub write_word : not a ≡ true → 4 ≡ write_number p n kind words out
             write_word h = rw (write_last, h)
 
-            pub write_none : not a ≡ false → 0 ≡ write_number p n kind words out
+            pub write_none : a ≡ true → 0 ≡ write_number p n kind words out
             write_none h = rw (write_last, h)

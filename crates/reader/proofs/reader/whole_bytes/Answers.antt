@@ -1,21 +1,17 @@
-use Rattle.std.proofs.Common.{arith, rules}
-use Prim.Native.Nat.{◌<◌}
-use lib.ListN.{get_or}
-use Rattle.reader.proofs.WholeBytes.{no_bytes, bytes_fit, byte_fits_behind, bytes_turn}
+use Rattle.reader.proofs.WholeBytes.{no_bytes, bytes_fit, byte_fits_behind, bytes_turn, bytes_done}
 use Rattle.reader.proofs.reader.whole_bytes.Goals as goal
 
-pub loop-k-init : goal.loop-k-init
-loop-k-init c = (search rules, search rules, search no_bytes)
+pub loop-byte-init : goal.loop-byte-init
+loop-byte-init c = no_bytes _ _
 
 pub overflow_mul-value : goal.overflow_mul-value
-overflow_mul-value c = search bytes_fit
+overflow_mul-value c = bytes_fit _ _ _ c.requires.0 c.requires.1 c.requires.2 _ _ c.loop-byte.invariant c.loop-byte-test.true
 
 pub overflow_add-value : goal.overflow_add-value
-overflow_add-value c =
-    let byte : get_or c.args.card.now c.loop-k.k 0 < 256 = omega (arith, c.shared_slice_known-1.given c.loop-k.k) in
-    search byte_fits_behind
+overflow_add-value c = byte_fits_behind _ _ _ c.requires.0 c.requires.1 c.requires.2 _ _ c.loop-byte.invariant c.loop-byte-test.true (c.type_inv.card _).fits
 
-pub loop-k-preserved : goal.loop-k-preserved
-loop-k-preserved c =
-    let byte : get_or c.args.card.now c.loop-k.k 0 < 256 = omega (arith, c.shared_slice_known-1.given c.loop-k.k) in
-    (search rules, search rules, search bytes_turn)
+pub loop-byte-preserved : goal.loop-byte-preserved
+loop-byte-preserved c = bytes_turn _ _ _ c.requires.0 c.requires.1 c.requires.2 _ _ c.loop-byte.invariant c.loop-byte-test.true (c.type_inv.card _).fits
+
+pub returns : goal.returns
+returns c = bytes_done _ _ _ c.requires.0 c.requires.1 c.requires.2 _ _ c.loop-byte.invariant c.loop-byte-test.false c.loop-byte.auto.byte-index-end

@@ -3,8 +3,8 @@ use Rattle.std.proofs.Common.{rules}
 use Rattle.writer.proofs.writer.WrittenBits.{word_digit, word_past}
 use Rattle.writer.proofs.writer.word_bit.Goals as goal
 
-pub returns-then-k-words : goal.returns-then-k-words
-returns-then-k-words c = (search word_digit, search rules)
+pub returns-in-Some : goal.returns-in-Some
+returns-in-Some c = (search (word_digit, rules), search rules)
 
-pub returns-else-k-words : goal.returns-else-k-words
-returns-else-k-words c = (search word_past, search rules)
+pub returns-in-None : goal.returns-in-None
+returns-in-None c = (search (word_past, rules), search rules)
