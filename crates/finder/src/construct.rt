@@ -109,17 +109,9 @@ fn from_rounds(p: u64, n: usize, k: u64, t1: &[u64; 16], t2: &[u64; 16]) -> Resu
     ensures number { number_of result ≡ refuse_find p n (take n t1.now) (take n t2.now) }
     ensures pair { IfOk result (λ pair. FoundPair p n (take n t1.now) (take n t2.now) 0 pair.forward pair.backward) }
 {
-    let first = generator(p, n, k, t1);
-    if !first.found {
-        return Err(Refusal::FirstModulus);
-    }
-    let second = generator(p, n, k, t2);
-    if !second.found {
-        return Err(Refusal::SecondModulus);
-    }
+    let alpha1 = generator(p, n, k, t1).ok_or(Refusal::FirstModulus)?;
+    let alpha2 = generator(p, n, k, t2).ok_or(Refusal::SecondModulus)?;
     let mut m = [0; 256];
-    let alpha1 = first.vector;
-    let alpha2 = second.vector;
     Ok(between(p, n, 0, t1, t2, &alpha1, &alpha2, &mut m))
 }
 
@@ -134,9 +126,6 @@ pub fn construct(p: u64, n: usize, t1: &[u64; 16], t2: &[u64; 16]) -> Result<Pai
     if (p - 1) % (n as u64) == 0 {
         return from_eigenvectors(p, n, t1, t2);
     }
-    let k = exponent(p, n as u64);
-    if k == 0 {
-        return Err(Refusal::Method);
-    }
+    let k = exponent(p, n as u64).ok_or(Refusal::Method)?;
     from_rounds(p, n, k, t1, t2)
 }

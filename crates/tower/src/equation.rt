@@ -1,32 +1,25 @@
 // The equation v^p = v + a modulo T, which is linear in v. The matrix of u ↦ u^p − u has the column 0 for the constants; with a in its place it takes u, not 0, to 0 exactly if
 // w^p − w = −u[0]·a for w = (0, u[1], …, u[n − 1]). So −w/u[0] is the solution with constant coefficient 0.
-ghost use Rattle.std.specs.Prelude.{◌≡◌, ◌-◌, ◌^◌, ◌≤◌, ◌<◌, length, get_or, take};
+ghost use Rattle.std.specs.Prelude.{◌≡◌, ◌-◌, ◌^◌, ◌≤◌, ◌<◌, length, get_or, take, MatchOption};
 ghost use Rattle.algebra.specs.Prime.{Prime};
 ghost use Rattle.array.specs.Array.{padded, Holds};
-ghost use Rattle.modular.specs.Inverse.{inverse as inverse_of};
-ghost use Rattle.quotient.specs.Residue.{scale as scale_of};
-ghost use Rattle.tower.specs.Equation.{without_constant, Differences, Solved};
+ghost use Rattle.modular.specs.Inverse.{inverse};
+ghost use Rattle.quotient.specs.Residue.{scale};
+ghost use Rattle.tower.specs.Equation.{without_constant, Differences, Solved, Unsolved};
 
-use linear::system::solve;
+use linear::system::{Solution, solve};
 use matrix::frobenius::frobenius;
 use matrix::powers::place;
 use modular::word::inverse;
 use scalar::shift::minus;
 use scalar::vector::scale;
 
-// Whether a residue was found, and the residue.
-#[derive(Clone, Copy)]
-pub struct Solution {
-    pub found: bool,
-    pub vector: [u64; 16],
-}
-
 // The matrix of u ↦ u^p − u.
 pub fn differences(p: u64, n: usize, t: &[u64; 16], m: &mut [u64; 256])
     requires prime { Prime p }
-    requires p_bound { (p ≤ 2 ^ 20) × (1 ≤ n) × (n ≤ 16) }
+    requires sizes { (p ≤ 2 ^ 20) × (1 ≤ n) × (n ≤ 16) }
     requires holds { Holds p n t.now }
-    requires m_len { length m.old ≡ 256 }
+    requires matrix_size { length m.old ≡ 256 }
     ensures { Differences p n (take n t.now) m.new }
 {
     frobenius(p, n, t, m);
@@ -36,9 +29,9 @@ pub fn differences(p: u64, n: usize, t: &[u64; 16], m: &mut [u64; 256])
 // −w/u[0] for w = (0, u[1], …, u[n − 1]).
 fn divided(p: u64, n: usize, u: &[u64; 16]) -> [u64; 16]
     requires prime { Prime p }
-    requires p_bound { (p ≤ 2 ^ 20) × (1 ≤ n) × (n ≤ 16) }
+    requires sizes { (p ≤ 2 ^ 20) × (1 ≤ n) × (n ≤ 16) }
     requires holds { Holds p n u.now × (0 < get_or u.now 0 0) }
-    ensures { result ≡ padded (scale_of p (inverse_of p (p - get_or u.now 0 0)) (without_constant (take n u.now))) }
+    ensures { result ≡ padded (scale p (inverse p (p - get_or u.now 0 0)) (without_constant (take n u.now))) }
 {
     let mut w = *u;
     w[0] = 0;
@@ -46,29 +39,23 @@ fn divided(p: u64, n: usize, u: &[u64; 16]) -> [u64; 16]
 }
 
 // The solution of v^p = v + a with constant coefficient 0, where c is the matrix of u ↦ u^p − u. Where none is found, there is none, or T has a monic divisor of degree 1 to n − 1.
-pub fn artin_schreier(p: u64, n: usize, t: &[u64; 16], c: &[u64; 256], a: &[u64; 16]) -> Solution
+pub fn artin_schreier(
+    p: u64,
+    n: usize,
+    t: &[u64; 16],
+    c: &[u64; 256],
+    a: &[u64; 16],
+) -> Option<[u64; 16]>
     requires prime { Prime p }
-    requires p_bound { (p ≤ 2 ^ 20) × (1 ≤ n) × (n ≤ 16) }
+    requires sizes { (p ≤ 2 ^ 20) × (1 ≤ n) × (n ≤ 16) }
     requires holds { Holds p n t.now × Holds p n a.now }
     requires differences { Differences p n (take n t.now) c.now }
-    ensures { Solved p n (take n t.now) (take n a.now) result.found result.vector }
+    ensures { MatchOption result (Unsolved p n (take n t.now) (take n a.now)) (λ v. Solved p n (take n t.now) (take n a.now) v) }
 {
     let mut system = *c;
     place(n, 0, a, &mut system);
-    let linear::system::Solution::NullVector(u) = solve(p, n, &mut system, [0; 16]) else {
-        return Solution {
-            found: false,
-            vector: [0; 16],
-        };
-    };
-    if u[0] == 0 {
-        return Solution {
-            found: false,
-            vector: [0; 16],
-        };
-    }
-    Solution {
-        found: true,
-        vector: divided(p, n, &u),
+    match solve(p, n, &mut system, [0; 16]) {
+        Solution::NullVector(u) if u[0] != 0 => Some(divided(p, n, &u)),
+        _ => None,
     }
 }

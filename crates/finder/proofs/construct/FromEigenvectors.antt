@@ -34,10 +34,10 @@ module _ (p n : ℕ) (h : Admissible p n) where
 
 module _ (p n z : ℕ) (t1 t2 : List ℕ) (h : Admissible p n) (f1 : Bool) (x : List ℕ) (a : ℕ) (answer1 : EigenvectorFound p n t1 z f1 x a) where
   pub refused_first : not f1 ≡ true → 6 ≡ refuse_find p n t1 t2
-  refused_first = six p n t1 t2 (first_size p n h) f1 answer1.decides
+  refused_first none = six p n t1 t2 (first_size p n h) (divisor_of answer1.decides ∙ none)
 
   pub refused_second : (f2 : Bool) (y : List ℕ) (b : ℕ) → EigenvectorFound p n t2 z f2 y b → not f1 ≡ false → not f2 ≡ true → 7 ≡ refuse_find p n t1 t2
-  refused_second f2 y b answer2 = seven p n t1 t2 (first_size p n h) f1 answer1.decides f2 answer2.decides
+  refused_second f2 y b answer2 some none = seven p n t1 t2 (first_size p n h) (divisor_of answer1.decides ∙ some) (divisor_of answer2.decides ∙ none)
 
 -- an eigenvector that was found
 pub found_answer : (p n : ℕ) (t : List ℕ) (z : ℕ) (f : Bool) (v : List ℕ) (b : ℕ) → EigenvectorFound p n t z f v b → not f ≡ false → EigenvectorFound p n t z true v b

@@ -4,6 +4,7 @@ use mathlib.Core.Bool.{Bool, true, false, not}
 use mathlib.Core.List.{List}
 use mathlib.Core.Logic.{inl, inr}
 use Prim.Native.Nat.{ℕ, ◌-◌, ◌%◌, ◌^◌, ◌≤◌}
+use native.Mathlib.Omega.{arith}
 use Rattle.algebra.specs.Prime.{Prime}
 use Rattle.quotient.specs.DivisorTest.{has_divisor}
 use Rattle.refusal.specs.Refusal.{refuse}
@@ -24,15 +25,12 @@ module _ (p n : ℕ) where
   pub first_size : Admissible p n → Size p n
   first_size h = record { prime = h.prime; small = h.small; low = h.low; high = h.high; findable = inl h.divides }
 
-  module _ (k : ℕ) (e : k ≡ exponent p n) (other : k ≡ 0 → ⊥) where
-    pub exponent_low : 1 ≤ k
-    exponent_low = rw e (exponent_is p n (λ z. other (e ∙ z))).0
-
+  module _ (k : ℕ) (positive : 1 ≤ k) (e : k ≡ exponent p n) where
     pub exponent_size : n ≡ p ^ k
-    exponent_size = rw e (exponent_is p n (λ z. other (e ∙ z))).1
+    exponent_size = rw e (exponent_is p n (λ z. omega arith)).1
 
     pub second_size : Prime p → p ≤ 2 ^ 20 → 1 ≤ n → n ≤ 16 → Size p n
-    second_size prime small low high = record { prime = prime; small = small; low = low; high = high; findable = inr (k, exponent_low, exponent_size) }
+    second_size prime small low high = record { prime = prime; small = small; low = low; high = high; findable = inr (k, positive, exponent_size) }
 
 -- the number
 
@@ -44,13 +42,13 @@ module _ (p n : ℕ) (t1 t2 : List ℕ) where
   pub number_from : Size p n → {c d : Bool} → has_divisor p t1 ≡ c → has_divisor p t2 ≡ d → refuse_find p n t1 t2 ≡ refuse 6 c (refuse 7 d 0)
   number_from h e1 e2 = rw (findable-true p n h.prime.0 h.findable, e1, e2)
 
-  pub refused_degree : ((p - 1) % n ≡ 0 → ⊥) → (k : ℕ) → k ≡ exponent p n → k ≡ 0 → 5 ≡ refuse_find p n t1 t2
-  refused_degree other k ek z =
-      sym (ap (λ b. refuse 5 (not b) (refuse 6 (has_divisor p t1) (refuse 7 (has_divisor p t2) 0))) (findable-false p n other (sym ek ∙ z)))
+  pub refused_degree : ((p - 1) % n ≡ 0 → ⊥) → exponent p n ≡ 0 → 5 ≡ refuse_find p n t1 t2
+  refused_degree other none =
+      sym (ap (λ b. refuse 5 (not b) (refuse 6 (has_divisor p t1) (refuse 7 (has_divisor p t2) 0))) (findable-false p n other none))
 
-  module _ (h : Size p n) (f1 : Bool) (decides1 : f1 ≡ not (has_divisor p t1)) where
-    pub six : not f1 ≡ true → 6 ≡ refuse_find p n t1 t2
-    six none = sym (number_from h (divisor_of decides1 ∙ none) refl)
+  module _ (h : Size p n) where
+    pub six : has_divisor p t1 ≡ true → 6 ≡ refuse_find p n t1 t2
+    six some = sym (number_from h some refl)
 
-    pub seven : (f2 : Bool) → f2 ≡ not (has_divisor p t2) → not f1 ≡ false → not f2 ≡ true → 7 ≡ refuse_find p n t1 t2
-    seven f2 decides2 some none = sym (number_from h (divisor_of decides1 ∙ some) (divisor_of decides2 ∙ none))
+    pub seven : has_divisor p t1 ≡ false → has_divisor p t2 ≡ true → 7 ≡ refuse_find p n t1 t2
+    seven none some = sym (number_from h none some)

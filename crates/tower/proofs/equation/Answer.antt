@@ -1,7 +1,7 @@
 -- What `artin_schreier` answers. Where only 0 is in the kernel of the system there is no solution. A vector u of the kernel with u[0] = 0 is a residue that the p-th power fixes and that is
 -- no constant, so that T has a proper divisor; any other gives the solution.
 use mathlib.Core.Path.{◌≡◌, refl, sym, ap, subst, ◌∙◌}
-use mathlib.Core.Bool.{Bool, true, false, false≢true, true≢false}
+use mathlib.Core.Bool.{Bool, true, false}
 use mathlib.Core.List.{List, [], ◌∷◌, head-eq_of_cons-eq}
 use Prim.Native.Nat.{ℕ, zero, suc, ◌-◌, ◌≤◌, ◌<◌}
 use native.Mathlib.Decide.{ℕ_discrete}
@@ -26,8 +26,8 @@ use Rattle.galois.specs.Tower.{ArtinSchreier}
 use Rattle.galois.proofs.Alpha.{scale_one}
 use Rattle.galois.proofs.ScaledEquation.{scaled_solution, fixed_is_zero}
 use Rattle.scalar.specs.Shifted.{Shifted}
-use Rattle.scalar.proofs.ShiftedMatrix.{shifted_square, zero_holds}
-use Rattle.tower.specs.Equation.{without_constant, Differences, Solved}
+use Rattle.scalar.proofs.ShiftedMatrix.{shifted_square}
+use Rattle.tower.specs.Equation.{without_constant, Differences, Solved, Unsolved}
 use Rattle.tower.proofs.equation.System.{system_equation, equation_system}
 
 module _ {p n : ℕ} {t b c s : List ℕ} (prime : Prime p) (short : suc n ≤ 16) (wt : Words p (suc n) t) (wa : Words p (suc n) (take (suc n) b))
@@ -85,15 +85,11 @@ module _ (p n : ℕ) (t a c s : List ℕ) (prime : Prime p) (low : 1 ≤ n) (sho
       by_place before i j li lj (yes e) = rw (e, placed.words i li) (holds_word ha i li)
       by_place before i j li lj (no other) = rw (placed.others i j (omega arith) other) (before.below i j li lj)
 
-none_found : {p n : ℕ} {t a : List ℕ} → Prime p → n ≤ 16 → ((w : List ℕ) → ArtinSchreier p n t a w → has_divisor p t ≡ true) → Solved p n t a false (replicate 16 0)
-none_found {p} {n} prime short none =
-    record { holds = zero_holds p n prime short; if_found = λ e. absurd (false≢true e); if_none = λ _. none }
-
--- the three answers, from the outcome of the system
+-- the answers, from the outcome of the system
 record Answers (p n : ℕ) (t a : List ℕ) (regular : Bool) (u : List ℕ) : Type 0 where
-  if_regular : regular ≡ true → Solved p n t a false (replicate 16 0)
-  if_fixed : regular ≡ false → get_or u 0 0 ≡ 0 → Solved p n t a false (replicate 16 0)
-  if_solved : regular ≡ false → (get_or u 0 0 ≡ 0 → ⊥) → (v : List ℕ) → v ≡ padded (scale p (inverse p (p - get_or u 0 0)) (without_constant (take n u))) → Solved p n t a true v
+  if_regular : regular ≡ true → Unsolved p n t a
+  if_fixed : regular ≡ false → get_or u 0 0 ≡ 0 → Unsolved p n t a
+  if_solved : regular ≡ false → (get_or u 0 0 ≡ 0 → ⊥) → (v : List ℕ) → v ≡ padded (scale p (inverse p (p - get_or u 0 0)) (without_constant (take n u))) → Solved p n t a v
 
 answers : (p n : ℕ) (t a c s : List ℕ) → Prime p → 1 ≤ n → n ≤ 16 → Holds p n t → Holds p n a → Differences p n (take n t) c → Placed n 0 a c s
     → (regular : Bool) (u : List ℕ) → Outcome p n s (replicate 16 0) regular u → Answers p n (take n t) (take n a) regular u
@@ -101,17 +97,13 @@ answers p zero t a c s prime low short ht ha matrix placed regular u outcome = a
 answers p (suc n) t a c s prime low short ht ha matrix placed regular u outcome =
     let front : get_or (take (suc n) u) 0 0 ≡ get_or u 0 0 = get_or-take (suc n) u 0 0 (omega arith) in
     record {
-      if_regular = λ e. none_found prime short (λ w h. absurd (no_solution prime short ht.words ha.words matrix placed (outcome.if_regular e).trivial w h.words h));
-      if_fixed = λ e z. none_found prime short (λ w h. by_divisor e (front ∙ z) (has_divisor? prime.0 ht.words));
+      if_regular = λ e w h. absurd (no_solution prime short ht.words ha.words matrix placed (outcome.if_regular e).trivial w h.words h);
+      if_fixed = λ e z w h. by_divisor e (front ∙ z) (has_divisor? prime.0 ht.words);
       if_solved = λ e other v f.
           let h : ArtinSchreier p (suc n) (take (suc n) t) (take (suc n) a) (scale p (inverse p (p - get_or u 0 0)) (without_constant (take (suc n) u))) =
           subst (λ x. ArtinSchreier p (suc n) (take (suc n) t) (take (suc n) a) (scale p (inverse p (p - x)) (without_constant (take (suc n) u)))) front
           (solution_of prime short ht.words ha.words matrix placed (take (suc n) u) (outcome.if_singular e).solves outcome.holds.words (λ z. other (sym front ∙ z))) in
-          record {
-            holds = holds_is f h.words;
-            if_found = λ _. subst (ArtinSchreier p (suc n) (take (suc n) t) (take (suc n) a)) (sym (front_is f h.words)) h;
-            if_none = λ g. absurd (true≢false g);
-          };
+          record { holds = holds_is f h.words; solution = subst (ArtinSchreier p (suc n) (take (suc n) t) (take (suc n) a)) (sym (front_is f h.words)) h };
     }
   where
     by_divisor : regular ≡ false → get_or (take (suc n) u) 0 0 ≡ 0 → Dec (HasDivisor p (take (suc n) t)) → has_divisor p (take (suc n) t) ≡ true
@@ -120,19 +112,19 @@ answers p (suc n) t a c s prime low short ht ha matrix placed regular u outcome 
         absurd (fixed_vector prime short ht.words ha.words matrix placed (take (suc n) u) (outcome.if_singular e).solves outcome.holds.words z (outcome.if_singular e).nonzero d)
 
 module _ (p n : ℕ) (t a c s : List ℕ) (prime : Prime p) (low : 1 ≤ n) (short : n ≤ 16) (ht : Holds p n t) (ha : Holds p n a) (matrix : Differences p n (take n t) c)
-    (placed : Placed n 0 a c s) (regular : Bool) (u : List ℕ) (outcome : Outcome p n s (replicate 16 0) regular u) where
-  each : Answers p n (take n t) (take n a) regular u
-  each = answers p n t a c s prime low short ht ha matrix placed regular u outcome
+    (placed : Placed n 0 a c s) where
+  each : (regular : Bool) (u : List ℕ) → Outcome p n s (replicate 16 0) regular u → Answers p n (take n t) (take n a) regular u
+  each = answers p n t a c s prime low short ht ha matrix placed
 
-  pub regular_answer : regular ≡ true → Solved p n (take n t) (take n a) false (replicate 16 0)
-  regular_answer = each.if_regular
+  pub regular_answer : (u : List ℕ) → Outcome p n s (replicate 16 0) true u → Unsolved p n (take n t) (take n a)
+  regular_answer u outcome = (each true u outcome).if_regular refl
 
-  pub fixed_answer : regular ≡ false → get_or u 0 0 ≡ 0 → Solved p n (take n t) (take n a) false (replicate 16 0)
-  fixed_answer = each.if_fixed
+  pub fixed_answer : (u : List ℕ) → Outcome p n s (replicate 16 0) false u → get_or u 0 0 ≡ 0 → Unsolved p n (take n t) (take n a)
+  fixed_answer u outcome = (each false u outcome).if_fixed refl
 
-  pub solved_answer : regular ≡ false → (get_or u 0 0 ≡ 0 → ⊥) → (v : List ℕ) → v ≡ padded (scale p (inverse p (p - get_or u 0 0)) (without_constant (take n u)))
-      → Solved p n (take n t) (take n a) true v
-  solved_answer = each.if_solved
+  pub solved_answer : (u : List ℕ) → Outcome p n s (replicate 16 0) false u → (get_or u 0 0 ≡ 0 → ⊥)
+      → (v : List ℕ) → v ≡ padded (scale p (inverse p (p - get_or u 0 0)) (without_constant (take n u))) → Solved p n (take n t) (take n a) v
+  solved_answer u outcome = (each false u outcome).if_solved refl
 
 -- the matrix of differences
 pub differences_are : (p n : ℕ) (t m c : List ℕ) → Frobenius p n t m → Shifted p n 1 m c → Differences p n t c

@@ -1,13 +1,12 @@
 -- The rounds on arrays. A round that has its solution leads one round on. Where one has none, T has a proper divisor: otherwise the search would find a solution for the same a.
 -- After k rounds T has none, and the array holds the α of the search.
 use mathlib.Core.Path.{◌≡◌, sym, ap, ap₂, subst, ◌∙◌}
-use mathlib.Core.Bool.{Bool, true, false, not, false≢true}
+use mathlib.Core.Bool.{true, false}
 use mathlib.Core.List.{List}
 use Prim.Native.Nat.{ℕ, zero, suc, ◌+◌, ◌-◌, ◌^◌, ◌≤◌, ◌<◌}
 use native.Mathlib.Numerals.{add-one}
 use native.Mathlib.Omega.{arith}
 use lib.ListN.{take, set, replicate}
-use borrow.Author.Tests.{not-true, not-false}
 use Rattle.algebra.specs.Prime.{Prime}
 use Rattle.algebra.specs.Ring.{CommutativeRing}
 use Rattle.algebra.proofs.RingLaws.{power_of_one}
@@ -24,7 +23,7 @@ use Rattle.quotient.proofs.Ring.{residue_ring, power_is}
 use Rattle.residue.proofs.Power.{constant_array}
 use Rattle.galois.specs.Tower.{raised, rounds, ArtinSchreier, Rounds}
 use Rattle.galois.proofs.Rounds.{rounds_irreducible, rounds_found, round_solvable}
-use Rattle.tower.specs.Equation.{Solved}
+use Rattle.tower.specs.Equation.{Solved, Unsolved}
 use Rattle.tower.specs.Generator.{Reached, GeneratorFound}
 
 -- a·α^(p − 1)
@@ -73,28 +72,24 @@ module _ (p n : ℕ) (t : List ℕ) (prime : Prime p) (ht : Holds p n t) (j : �
   next_front : take n b ≡ raised p T (take n a) (take n v)
   next_front = front_is eb raised_words
 
-  module _ (f : Bool) (w : List ℕ) (solved : Solved p n T (take n b) f w) where
-    pub next_reached : not f ≡ false → Reached p n T (j + 1) b w
-    next_reached some =
-        record {
-          a_holds = holds_is eb raised_words;
-          v_holds = solved.holds;
-          after = subst (λ i. Rounds p n T i (take n b) (take n w)) (sym (add-one j)) (take n a, take n v, reached.after, next_front, solved.if_found (not-false f some));
-        }
+  pub next_reached : (w : List ℕ) → Solved p n T (take n b) w → Reached p n T (j + 1) b w
+  next_reached w solved =
+      record {
+        a_holds = holds_is eb raised_words;
+        v_holds = solved.holds;
+        after = subst (λ i. Rounds p n T i (take n b) (take n w)) (sym (add-one j)) (take n a, take n v, reached.after, next_front, solved.solution);
+      }
 
-    pub next_none : 1 ≤ n → (k : ℕ) → n ≡ p ^ k → j < k → not f ≡ true → GeneratorFound p n T k f w
-    next_none low k size less none =
-        let e : f ≡ false = not-true f none in
-        let divisor : has_divisor p T ≡ true =
-        unsolved prime low ht.words j k less size (take n a) (take n v) reached.after (λ x s. solved.if_none e x (subst (λ y. ArtinSchreier p n T y x) (sym next_front) s)) in
-        record { decides = e ∙ sym (ap not divisor); alpha_is = λ g. absurd (false≢true (sym e ∙ g)) }
+  pub next_none : Unsolved p n T (take n b) → 1 ≤ n → (k : ℕ) → n ≡ p ^ k → j < k → has_divisor p T ≡ true
+  next_none none low k size less =
+      unsolved prime low ht.words j k less size (take n a) (take n v) reached.after (λ x s. none x (subst (λ y. ArtinSchreier p n T y x) (sym next_front) s))
 
 pub last_reached : (p n k : ℕ) (t : List ℕ) → Prime p → 1 ≤ n → 1 ≤ k → n ≡ p ^ k → Holds p n t → (j : ℕ) (a v : List ℕ) → Reached p n (take n t) j a v → j ≤ k → k ≤ j
-    → GeneratorFound p n (take n t) k true v
+    → GeneratorFound p n (take n t) k v
 last_reached p n k t prime low low_k size ht j a v reached l l' =
     let same : j ≡ k = omega arith in
     let (irreducible, e) = all_solved prime low ht.words k low_k size (take n a) (take n v) (subst (λ i. Rounds p n (take n t) i (take n a) (take n v)) same reached.after) in
-    record { decides = sym (ap not irreducible); alpha_is = λ _. reached.v_holds.zeros ∙ ap padded e }
+    record { irreducible = irreducible; alpha_is = reached.v_holds.zeros ∙ ap padded e }
 
 -- the first round: a = α = 1, and a·α^(p − 1) = 1
 
@@ -126,9 +121,8 @@ module _ (p n : ℕ) (t : List ℕ) (prime : Prime p) (low : 1 ≤ n) (short : n
   one-raised : one ≡ padded (raised p (take n t) (take n one) (take n one))
   one-raised = array_is ∙ ap padded (sym (ap₂ (raised p (take n t)) front front ∙ raised-one prime.0 ht.words))
 
-  module _ (f : Bool) (w : List ℕ) (solved : Solved p n (take n t) (take n one) f w) where
-    pub first_reached : not f ≡ false → Reached p n (take n t) 1 one w
-    first_reached = next_reached p n t prime ht 0 one one start_reached one one-raised f w solved
+  pub first_reached : (w : List ℕ) → Solved p n (take n t) (take n one) w → Reached p n (take n t) 1 one w
+  first_reached = next_reached p n t prime ht 0 one one start_reached one one-raised
 
-    pub first_none : (k : ℕ) → 1 ≤ k → n ≡ p ^ k → not f ≡ true → GeneratorFound p n (take n t) k f w
-    first_none k low_k size = next_none p n t prime ht 0 one one start_reached one one-raised f w solved low k size low_k
+  pub first_none : Unsolved p n (take n t) (take n one) → (k : ℕ) → 1 ≤ k → n ≡ p ^ k → has_divisor p (take n t) ≡ true
+  first_none none k low_k size = next_none p n t prime ht 0 one one start_reached one one-raised none low k size low_k

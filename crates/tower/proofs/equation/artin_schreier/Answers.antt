@@ -9,11 +9,11 @@ solve-requires-clause-square c = search system_square
 pub solve-requires-clause-holds : goal.solve-requires-clause-holds
 solve-requires-clause-holds c = search zero_holds
 
+pub returns-in-NullVector : goal.returns-in-NullVector
+returns-in-NullVector c = search (solved_answer, c.in-NullVector.ensures.solution)
+
 pub returns-in_default : goal.returns-in_default
-returns-in_default c = search (regular_answer, c.in_default.ensures.solution)
+returns-in_default c = search (fixed_answer, c.in-NullVector.ensures.solution)
 
-pub returns-then-u-eq0 : goal.returns-then-u-eq0
-returns-then-u-eq0 c = search (fixed_answer, c.in-NullVector.ensures.solution)
-
-pub returns : goal.returns
-returns c = search (solved_answer, c.in-NullVector.ensures.solution)
+pub returns-in_default-2 : goal.returns-in_default-2
+returns-in_default-2 c = search (regular_answer, c.in_default.ensures.solution)

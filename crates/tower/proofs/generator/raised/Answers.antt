@@ -9,5 +9,5 @@ product-requires-clause-holds c = (search rules, search rules, search power_hold
 pub returns-clause-value : goal.returns-clause-value
 returns-clause-value c = search raised_is
 
-pub returns-clause-holds_2 : goal.returns-clause-holds_2
-returns-clause-holds_2 c = search raised_holds
+pub returns-clause-holds : goal.returns-clause-holds
+returns-clause-holds c = search raised_holds
