@@ -86,10 +86,6 @@ module _ (p : ℕ) (h : 2 ≤ p) where
   unfolding word_ring
   one_value = mod-eq_of_lt h
 
-  pub add_value : (a b : Below p) → (word_ring.add a b).0 ≡ (a.0 + b.0) % p
-  unfolding word_ring
-  add_value a b = refl
-
   pub mul_value : (a b : Below p) → (word_ring.mul a b).0 ≡ (a.0 * b.0) % p
   unfolding word_ring
   mul_value a b = refl

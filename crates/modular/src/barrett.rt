@@ -37,8 +37,8 @@ impl Barrett {
     {
         let shift = shift_of(p);
         Barrett {
-            p: p,
-            shift: shift,
+            p,
+            shift,
             reciprocal: (4294967296 << shift) / p,
         }
     }

@@ -2,22 +2,13 @@
 -- less than 2 below it: leaving out l loses at most 1/16, rounding r at most h / 2^32 ≤ 15/16, and rounding q less than 1.
 use mathlib.Core.Path.{◌≡◌, sym, ap, ◌∙◌}
 use Prim.Native.Nat.{ℕ, ◌+◌, ◌-◌, ◌*◌, ◌/◌, ◌%◌, ◌^◌, ◌≤◌, ◌<◌}
-use native.Mathlib.Decide.{dec_lt}
 use native.Mathlib.Nat as Nat
 use native.Mathlib.Omega.{arith}
 use lib.Pow.{pow_pos}
-use mir.Syntax.{w64}
-use mir.Val.{Fits}
 use Rattle.modular.specs.declared.barrett.Barrett.{Barrett}
 use Rattle.modular.specs.Barrett.{Reduces}
 use Rattle.modular.proofs.Remainder.{remainder_unique}
 use Rattle.modular.proofs.barrett.Shift.{shift_short}
-
-pub times_fits : (a b : ℕ) → a < 2 ^ 32 → b < 2 ^ 32 → Fits w64 (a * b)
-times_fits a b h l =
-    let f : a ≤ 2 ^ 32 - 1 = omega arith in
-    let g : b ≤ 2 ^ 32 - 1 = omega arith in
-    omega (arith, Nat.mul-le-mul f g)
 
 -- the three roundings as inequalities, each multiplied out
 quotient_bounds : (p r t x h l q : ℕ) → 0 < p → h * t + l ≡ x → l * 16 ≤ p → h * 16 ≤ 15 * 2 ^ 32 → r * p ≤ 2 ^ 32 * t → 2 ^ 32 * t ≤ r * p + p
@@ -43,17 +34,6 @@ module _ (d : Barrett) (m : Reduces d) where
   reciprocal_above : 2 ^ 32 * 2 ^ d.shift < d.reciprocal * d.p + d.p
   reciprocal_above = rw m.quotient (Nat.lt-div-mul-add positive)
 
-  -- since 2^shift < p
-  pub reciprocal_short : d.reciprocal < 2 ^ 32
-  reciprocal_short = go (dec_lt d.reciprocal (2 ^ 32))
-    where
-      go : Dec (d.reciprocal < 2 ^ 32) → d.reciprocal < 2 ^ 32
-      go (yes l) = l
-      go (no l) =
-          let above : 2 ^ d.shift + 1 ≤ d.p = omega (arith, m.low, m.big) in
-          let h : 2 ^ 32 ≤ d.reciprocal = omega arith in
-          absurd (omega (arith, reciprocal_below, Nat.mul-le-mul h above))
-
   high_small : (x : ℕ) → 16 * x ≤ 15 * (2 ^ 32 * 2 ^ d.shift) → x / 2 ^ d.shift ≤ 15 * 2 ^ 28
   high_small x bound = Nat.div-le_of_le-mul (2 ^ d.shift) (omega arith)
 
@@ -69,9 +49,6 @@ module _ (d : Barrett) (m : Reduces d) where
     -- p ≤ 2^20 and p ≤ 32·2^shift
     bound : 16 * x ≤ 15 * (2 ^ 32 * 2 ^ d.shift)
     bound = omega (arith, Nat.mul-le-mul m.small m.high)
-
-    pub high_short : x / 2 ^ d.shift < 2 ^ 32
-    high_short = omega (arith, high_small x bound)
 
     module _ (z w : ℕ) (e : z ≡ x / 2 ^ d.shift * d.reciprocal) (f : w ≡ z / 2 ^ 32 * d.p) where
       pub near_below : w ≤ x
@@ -96,9 +73,6 @@ module _ (p x y : ℕ) (e : y % p ≡ x % p) (l : y < 2 * p) where
       ∙ Nat.add-mod-mod (2 * p - y) y p
       ∙ ap (λ k. k % p) whole
       ∙ Nat.mul-mod_right p 2
-
-  pub once_none : y < p → y ≡ x % p
-  once_none h = sym (Nat.mod-eq_of_lt h) ∙ e
 
   pub once_more : p ≤ y → y - p ≡ x % p
   once_more h = remainder_unique y (y - p) 1 p (omega arith) (omega arith) ∙ e

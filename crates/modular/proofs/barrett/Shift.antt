@@ -1,12 +1,11 @@
 -- The shift of a divisor p: the place j of the highest bit of p, 2^j ≤ p < 2^(j + 1), less four, or 0.
 use mathlib.Core.Path.{◌≡◌, sym, ap, ◌∙◌}
-use Prim.Native.Nat.{ℕ, suc, ◌+◌, ◌-◌, ◌*◌, ◌/◌, ◌%◌, ◌^◌, ◌≤◌, ◌<◌}
+use Prim.Native.Nat.{ℕ, suc, ◌+◌, ◌-◌, ◌*◌, ◌^◌, ◌≤◌, ◌<◌}
 use native.Mathlib.Decide.{dec_lt}
 use native.Mathlib.Nat as Nat
 use native.Mathlib.Omega.{arith}
 use lib.Count.{count_leading_zeros, leading_top}
 use lib.Pow.{pow_mono, pow-add}
-use Rattle.modular.specs.Barrett.{Reduces}
 
 module _ (p : ℕ) (big : 2 ≤ p) (small : p ≤ 2 ^ 20) where
   top_bit : (j : ℕ) × (64 - count_leading_zeros 64 p ≡ suc j) × (2 ^ j ≤ p) × (p < 2 ^ suc j)
@@ -36,13 +35,3 @@ shift_short p k small low = go (dec_lt k 17)
     go (no l) =
         let h : 17 ≤ k = omega arith in
         absurd (omega (arith, pow_mono h))
-
-pub reduces_new : (p k : ℕ) → 2 ≤ p → p ≤ 2 ^ 20 → 2 ^ k * 16 ≤ p + 16 → p ≤ 2 ^ k * 32
-    → Reduces (record { p = p; shift = k; reciprocal = (2 ^ 32 * 2 ^ k) % 2 ^ 64 / p })
-reduces_new p k big small low high = record {
-  big = big;
-  small = small;
-  low = low;
-  high = high;
-  quotient = ap (λ x. x / p) (Nat.mod-eq_of_lt (omega arith));
-}

@@ -6,7 +6,7 @@
 use mathlib.Core.Path.{◌≡◌, sym, ap, ◌∙◌}
 use mathlib.Core.Logic.{◌⊎◌, inl, inr, ⊎_elim}
 use Prim.Native.Nat.{ℕ, ◌+◌, ◌-◌, ◌*◌, ◌/◌, ◌%◌, ◌≤◌, ◌<◌}
-use native.Mathlib.Nat.{mod-eq_of_lt, mod-lt, mod_self, zero-mod, mul-mod_right, mul-mod_left, div-mul-le_self, mod-eq-sub-div-mul, add-mod-mod, add-mul-mod_self_left, pos_of_ne-zero, le-mul_of_pos_right}
+use native.Mathlib.Nat.{mod-eq_of_lt, mod-lt, mul-mod_right, mul-mod_left, div-mul-le_self, mod-eq-sub-div-mul, add-mod-mod, add-mul-mod_self_left, pos_of_ne-zero, le-mul_of_pos_right}
 use native.Mathlib.Omega.{arith}
 use Rattle.algebra.specs.Prime.{Prime}
 use Rattle.algebra.proofs.Modulo.{mul-mod-mod, add-mod_cancel}
@@ -22,23 +22,6 @@ pub record Bezout (p a x s y t : ℕ) : Type 0 where
   pub y_positive : 0 < y
   pub y_small : y < p
   pub signed : Signed p a (p - a) x s y t ⊎ Signed p (p - a) a x s y t
-
-pub bezout_start : (p a : ℕ) → 0 < a → a < p → Bezout p a p 0 a 1
-bezout_start p a h k =
-    record {
-      exact = omega arith;
-      x_positive = omega arith;
-      x_small = omega arith;
-      y_positive = h;
-      y_small = k;
-      signed = inl (ap (λ x. x % p) times_one, ap (λ x. x % p) times_zero ∙ zero-mod p ∙ sym (mod_self p));
-    }
-  where
-    times_one : a * 1 ≡ a
-    times_one = omega arith
-
-    times_zero : (p - a) * 0 ≡ 0
-    times_zero = omega arith
 
 -- c·(s + q·t) = r modulo p, where x = r + q·y: to both sides add q·y = q·b·t, and q·(b + c)·t is a multiple of p
 signed_turn : (p b c x s y t q r : ℕ) → 0 < p → b + c ≡ p → x ≡ r + q * y → Signed p b c x s y t → Signed p c b y t r (s + q * t)
@@ -93,13 +76,6 @@ module _ (p a x s y t : ℕ) (h : Bezout p a x s y t) where
   pub bezout_turn : Prime p → a < p → (y ≡ 1 → ⊥) → Bezout p a y t (x - x / y * y) (s + x / y * t)
   bezout_turn prime small large =
       bezout_turn_by p a x s y t (x / y) (x - x / y * y) prime (omega arith) (omega (arith, quotient_small)) remainder_less h large
-
-  pub next_small : s + x / y * t ≤ p
-  next_small =
-      let q : ℕ = x / y in
-      let exact : y * (s + q * t) + (x - q * y) * t ≡ p = exact_turn p s y t q (x - q * y) (ap (λ z. z * t + y * s) (omega (arith, quotient_small)) ∙ h.exact) in
-      let grows : s + q * t ≤ (s + q * t) * y = le-mul_of_pos_right (s + q * t) h.y_positive in
-      omega arith
 
 -- a·(p − t) = −a·t = (p − a)·t
 product_complements : (p a t c u : ℕ) → 0 < p → a + c ≡ p → t + u ≡ p → (a * u) % p ≡ (c * t) % p

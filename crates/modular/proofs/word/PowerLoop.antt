@@ -1,15 +1,13 @@
 -- The loop of `power`, with the divisor's reciprocal.
 --   PowerLoop d p a k r b e   d is the divisor p, and r·b^e = a^k modulo p
-use mathlib.Core.Path.{◌≡◌, sym, subst, ◌∙◌}
+use mathlib.Core.Path.{◌≡◌, sym, subst}
 use Prim.Native.Nat.{ℕ, ◌*◌, ◌/◌, ◌%◌, ◌^◌, ◌≤◌, ◌<◌}
 use native.Mathlib.Nat.{mod-lt}
 use native.Mathlib.Omega.{arith}
-use mir.Syntax.{w64}
-use mir.Val.{Fits}
 use Rattle.modular.specs.declared.barrett.Barrett.{Barrett}
 use Rattle.modular.specs.Barrett.{Reduces}
-use Rattle.modular.proofs.Factors.{few, few_of_one, factors_fit}
-use Rattle.modular.proofs.Remainder.{PowerLeft, power_start, power_even, power_odd, power_end}
+use Rattle.modular.proofs.Factors.{few}
+use Rattle.modular.proofs.Remainder.{PowerLeft, power_start, power_even, power_odd}
 
 pub record PowerLoop (d : Barrett) (p a k r b e : ℕ) : Type 0 where
   pub modulus : d.p ≡ p
@@ -27,14 +25,8 @@ module _ (d : Barrett) (p a k r b e : ℕ) (h : PowerLoop d p a k r b e) where
   pub product_few : r * b ≤ 64 * (d.p * d.p)
   product_few = few d h.reduces r b h.left.below h.left.factor_below
 
-  pub product_fits : Fits w64 (r * b)
-  product_fits = factors_fit d h.reduces r b h.left.below h.left.factor_below
-
   pub square_few : b * b ≤ 64 * (d.p * d.p)
   square_few = few d h.reduces b b h.left.factor_below h.left.factor_below
-
-  pub square_fits : Fits w64 (b * b)
-  square_fits = factors_fit d h.reduces b b h.left.factor_below h.left.factor_below
 
   pub loop_even : (c s : ℕ) → (e % 2 ≡ 1 → ⊥) → s ≡ r → c % d.p ≡ (b * b) % d.p → c < 2 * d.p → PowerLoop d p a k s c (e / 2)
   loop_even c s even es ec lc = record { modulus = h.modulus; reduces = h.reduces; left = power_even d.p a k r b e h.left c s even es ec lc }
@@ -42,12 +34,3 @@ module _ (d : Barrett) (p a k r b e : ℕ) (h : PowerLoop d p a k r b e) where
   pub loop_odd : (c s x : ℕ) → e % 2 ≡ 1 → x % d.p ≡ (r * b) % d.p → x < 2 * d.p → s ≡ x → c % d.p ≡ (b * b) % d.p → c < 2 * d.p → PowerLoop d p a k s c (e / 2)
   loop_odd c s x odd ex lx es ec lc =
       record { modulus = h.modulus; reduces = h.reduces; left = power_odd d.p a k r b e h.left c s x odd ex lx es ec lc }
-
-  pub last_few : r ≤ 64 * (d.p * d.p)
-  last_few = few_of_one d.p r h.reduces.big h.left.below
-
-  pub loop_end : e ≤ 0 → (w : ℕ) → w ≡ r % d.p → w ≡ a ^ k % p
-  loop_end l w ew = subst (λ q. w ≡ a ^ k % q) h.modulus (ew ∙ power_end d.p a k r b e h.left l)
-
-  pub loop_below : (w : ℕ) → w < d.p → w < p
-  loop_below w l = subst (λ q. w < q) h.modulus l

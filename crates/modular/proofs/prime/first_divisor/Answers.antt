@@ -1,4 +1,3 @@
-use Rattle.std.proofs.Common.{rules}
 use Rattle.modular.proofs.prime.FirstDivisor.{number_positive, divisor_here, divisor_later, divisor_none}
 use Rattle.modular.proofs.prime.first_divisor.Goals as goal
 
@@ -8,8 +7,8 @@ nonzero_rem-p c = search number_positive
 pub returns-then-p-q-eq0 : goal.returns-then-p-q-eq0
 returns-then-p-q-eq0 c = search divisor_here
 
-pub loop-i-preserved : goal.loop-i-preserved
-loop-i-preserved c = (search rules, search divisor_later)
+pub loop-q-preserved : goal.loop-q-preserved
+loop-q-preserved c = search divisor_later
 
 pub returns : goal.returns
 returns c = search divisor_none

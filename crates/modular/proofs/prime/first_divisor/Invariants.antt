@@ -1,12 +1,8 @@
--- None of the numbers before i divides p, so those from i on decide.
+-- None of the numbers before q divides p, so those from q on decide.
 use mathlib.Core.Path.{◌≡◌}
-use Prim.Native.Nat.{◌-◌, ◌≤◌}
-use lib.ListN.{length, drop}
+use lib.ListN.{drop}
 use Rattle.modular.specs.Prime.{first_divisor}
 use Rattle.modular.proofs.prime.first_divisor.Given as goal
 
-abbrev pub invariant-loop-i : goal.invariant-loop-i
-invariant-loop-i l = (l.i ≤ length l.numbers) × (first_divisor l.p l.numbers ≡ first_divisor l.p (drop l.i l.numbers))
-
-abbrev pub decreases-loop-i : goal.decreases-loop-i
-decreases-loop-i l = length l.numbers - l.i
+abbrev pub invariant-loop-q : goal.invariant-loop-q
+invariant-loop-q l = first_divisor l.p l.numbers ≡ first_divisor l.p (drop l.q-index l.numbers)
