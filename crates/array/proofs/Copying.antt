@@ -40,9 +40,11 @@ copy_done j xs w w' b l m e =
     ∙ append-nil (table (entry xs) (length w))
     ∙ table_entries (length w) xs b
 
-pub store_done : (j : ℕ) (w xs xs' : List ℕ) → length xs ≤ 16 → Holds word_bound (length xs) w → j ≤ length xs → length xs' ≤ j → xs' ≡ painted xs (entry w) j
+pub store_done : (j : ℕ) (w xs xs' : List ℕ) → length xs ≤ 16 → Holds word_bound (length xs) w → j ≤ length xs → length xs ≤ j → xs' ≡ painted xs (entry w) j
     → xs' ≡ take (length xs) w
-store_done j w xs xs' b h l m e = copy_done j w xs xs' (array_fits (length xs) w b h.zeros) l m e
+store_done j w xs xs' b h l m e =
+    let kept : length xs' ≤ j = omega (arith, ap length e ∙ painted-length xs (entry w) j) in
+    copy_done j w xs xs' (array_fits (length xs) w b h.zeros) l kept e
 
 pub store_fits : (j : ℕ) (w xs xs' : List ℕ) → Holds word_bound (length xs) w → length xs' ≡ length xs → j < length xs' → Fits w32 (get_or w j 0)
 store_fits j w xs xs' h e l = record { fits = holds_word h j (omega arith) }

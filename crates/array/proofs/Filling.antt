@@ -44,6 +44,3 @@ holds_next p n i x w short less below h = subst (λ k. Holds p k (set w i x)) (s
 
 pub holds_first : (p x : ℕ) → x < p → Holds p 1 (set (replicate 16 0) 0 x)
 holds_first p x below = holds_next p 1 0 x (replicate 16 0) (omega arith) (omega arith) below (holds_none p)
-
-pub holds_done : (p n i : ℕ) (w : List ℕ) → i ≤ n → n ≤ i → Holds p i w → Holds p n w
-holds_done p n i w l l' h = subst (λ k. Holds p k w) (omega arith) h

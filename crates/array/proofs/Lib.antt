@@ -3,7 +3,6 @@ pub mod Words
 pub mod Painted
 pub mod Padded
 pub mod Below
-mod Tested
 pub mod Copying
 pub mod Ascending
 pub mod Filling

@@ -11,10 +11,8 @@ pub fn load(xs: &[Word]) -> [u64; 16]
     ensures { result ≡ padded xs.now }
 {
     let mut w = [0; 16];
-    let mut j = 0;
-    while j < xs.len() {
-        w[j] = xs[j] as u64;
-        j += 1;
+    for (i, x) in xs.iter().enumerate() {
+        w[i] = *x as u64;
     }
     w
 }
@@ -24,9 +22,7 @@ pub fn store(w: &[u64; 16], xs: &mut [Word])
     requires { (length xs.old ≤ 16) × Holds word_bound (length xs.old) w.now }
     ensures { xs.new ≡ take (length xs.old) w.now }
 {
-    let mut j = 0;
-    while j < xs.len() {
-        xs[j] = w[j] as Word;
-        j += 1;
+    for (i, x) in xs.iter_mut().enumerate() {
+        *x = w[i] as Word;
     }
 }

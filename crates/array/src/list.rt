@@ -9,10 +9,8 @@ pub fn below(p: u32, xs: &[Word]) -> bool
     ensures { result ≡ all_below p xs.now }
 {
     let mut tested = true;
-    let mut i = 0;
-    while i < xs.len() {
-        tested = tested & (xs[i] < p);
-        i += 1;
+    for x in xs {
+        tested &= *x < p;
     }
     tested
 }

@@ -1,13 +1,9 @@
--- `list::below` compares one word after the other: those before i are tested, and the words from i on decide.
+-- `list::below`: the words before x are tested, and those from x on decide.
 use mathlib.Core.Path.{◌≡◌}
 use mathlib.Core.Bool.{◌&&◌}
-use Prim.Native.Nat.{◌-◌, ◌≤◌}
-use lib.ListN.{length, drop}
+use lib.ListN.{drop}
 use Rattle.array.specs.Words.{all_below}
 use Rattle.array.proofs.list.below.Given as goal
 
-abbrev pub invariant-loop-i : goal.invariant-loop-i
-invariant-loop-i l = (l.i ≤ length l.xs) × (all_below l.p l.xs ≡ (l.tested && all_below l.p (drop l.i l.xs)))
-
-abbrev pub decreases-loop-i : goal.decreases-loop-i
-decreases-loop-i l = length l.xs - l.i
+abbrev pub invariant-loop-x : goal.invariant-loop-x
+invariant-loop-x l = all_below l.p l.xs ≡ (l.tested && all_below l.p (drop l.x-index l.xs))
