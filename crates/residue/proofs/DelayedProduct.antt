@@ -49,9 +49,6 @@ zero_opposite p n w some short e = ap (λ l. (0 + get_or l (n - 1) 0) % p) e ∙
 
 -- a step takes the next word of u
 
-pub next_word : (p n i : ℕ) (u : List ℕ) → 0 < i → i ≤ n → Holds p n u → get_or u (i - 1) 0 < p
-next_word p n i u h l y = holds_word y (i - 1) (omega arith)
-
 pub top_word : (p n : ℕ) (u : List ℕ) → 1 ≤ n → Holds p n u → get_or u (n - 1) 0 < p
 top_word p n u some y = holds_word y (n - 1) (omega arith)
 

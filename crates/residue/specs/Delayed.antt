@@ -1,7 +1,6 @@
 -- Words whose reduction modulo p is put off, inside the product of two residues. The rows of a product stand in two arrays: those of the words of u with an even
 -- index in e, those with an odd index in o, one place lower than they count.
 --   reduced p u               each word of u modulo p
---   times_x_if b p t s        X·s modulo T, or s where b is false
 --   Delayed p n k s xs        the array xs holds n words that are s modulo p, each at most 3·k·p², and zeros after them
 --   Stepped p n t c v xs ys   the array ys holds X·xs + c·v modulo T, and the bound on its words has grown by 3·p²
 --   joined_words n i e o      the n words e[i + j] + o[i + j − 1] for j from 0 on
@@ -9,7 +8,7 @@
 --   Added i c q v t k z z'    z' is z with c·v + q·t added to the k words from word i on
 --   Half p n k i z            the array z has words of at most 3·k·p² below word i + n, and zeros below word i
 --   Halves p n k i s e o      two such arrays, with 3·(k + 1)·p², whose joined words are s modulo p, each at most 3·k·p²
-use Rattle.std.specs.Prelude.{◌≡◌, Bool, true, false, List, [], ◌∷◌, ℕ, zero, suc, ◌+◌, ◌*◌, ◌%◌, ◌≤◌, ◌<◌, length, get_or, take}
+use Rattle.std.specs.Prelude.{◌≡◌, List, [], ◌∷◌, ℕ, zero, suc, ◌+◌, ◌*◌, ◌%◌, ◌≤◌, ◌<◌, length, get_or, take}
 use Rattle.algebra.specs.Lists.{All}
 use Rattle.quotient.specs.Residue.{sum, scale, times_x}
 use Rattle.array.specs.Array.{padded}
@@ -17,10 +16,6 @@ use Rattle.array.specs.Array.{padded}
 unfoldable pub reduced : ℕ → List ℕ → List ℕ
 reduced p [] = []
 reduced p (a ∷ u) = a % p ∷ reduced p u
-
-abbrev pub times_x_if : Bool → ℕ → List ℕ → List ℕ → List ℕ
-times_x_if true p t s = times_x p t s
-times_x_if false p t s = s
 
 pub record Delayed (p n k : ℕ) (s xs : List ℕ) : Type 0 where
   pub words : reduced p (take n xs) ≡ s

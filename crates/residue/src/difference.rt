@@ -7,15 +7,13 @@ use modular::word::sub;
 
 // u − v modulo p.
 pub fn subtract(p: u64, n: usize, u: &[u64; 16], v: &[u64; 16]) -> [u64; 16]
-    requires le_p { (2 ≤ p) × (p ≤ 2 ^ 20) × (n ≤ 16) }
+    requires sizes { (2 ≤ p) × (p ≤ 2 ^ 20) × (n ≤ 16) }
     requires holds { Holds p n u.now × Holds p n v.now }
     ensures { result ≡ padded (sum p (take n u.now) (scale p (p - 1) (take n v.now))) }
 {
     let mut w = [0; 16];
-    let mut i = 0;
-    while i < n {
+    for i in 0..n {
         w[i] = sub(p, u[i], v[i]);
-        i += 1;
     }
     w
 }

@@ -5,7 +5,7 @@ ghost use Rattle.std.specs.Prelude.{◌≡◌, ◌∷◌, ◌+◌, ◌-◌, ◌*
 ghost use Rattle.quotient.specs.Residue.{times_x, product as product_of};
 ghost use Rattle.array.specs.Array.{padded, Holds};
 ghost use Rattle.modular.specs.Barrett.{Reduces};
-ghost use Rattle.residue.specs.Delayed.{reduced, times_x_if, joined, Added, Half, Halves};
+ghost use Rattle.residue.specs.Delayed.{reduced, joined, Added, Half, Halves};
 
 use modular::barrett::{Barrett, times};
 
@@ -19,8 +19,8 @@ fn plus_products(x: u64, c: u64, v: u64, q: u64, t: u64) -> u64
 
 // Adds c·v[j] + q·t[j] to word i + j of z.
 fn add_at(i: usize, j: usize, c: u64, v: &[u64; 16], q: u64, t: &[u64; 16], z: &mut [u64; 32])
-    requires i_bound { (i < 16) × (j < 16) × (length v.now ≡ 16) × (length t.now ≡ 16) × (length z.old ≡ 32) }
-    requires c_bound { (c < 2 ^ 20) × (get_or v.now j 0 < 2 ^ 20) × (q ≤ 2 ^ 21) × (get_or t.now j 0 < 2 ^ 20) × (get_or z.old (i + j) 0 ≤ 2 ^ 60) }
+    requires inside { (i < 16) × (j < 16) × (length v.now ≡ 16) × (length t.now ≡ 16) × (length z.old ≡ 32) }
+    requires small { (c < 2 ^ 20) × (get_or v.now j 0 < 2 ^ 20) × (q ≤ 2 ^ 21) × (get_or t.now j 0 < 2 ^ 20) × (get_or z.old (i + j) 0 ≤ 2 ^ 60) }
     ensures { z.new ≡ set z.old (i + j) (get_or z.old (i + j) 0 + c * get_or v.now j 0 + q * get_or t.now j 0) }
 {
     let k = i + j;
@@ -41,18 +41,16 @@ fn add_rows(
     e: &mut [u64; 32],
     o: &mut [u64; 32],
 )
-    requires le_p { (2 ≤ p) × (p ≤ 2 ^ 20) × (n ≤ 16) × (i < n) }
-    requires c_lt_p { (c < p) × (q ≤ 2 * p) × (b < p) × (r ≤ 2 * p) }
+    requires sizes { (2 ≤ p) × (p ≤ 2 ^ 20) × (n ≤ 16) × (i < n) }
+    requires factors { (c < p) × (q ≤ 2 * p) × (b < p) × (r ≤ 2 * p) }
     requires holds { Holds p n t.now × Holds p n v.now }
     requires half { Half p n 16 i e.old × Half p n 16 i o.old }
-    ensures added { Added i c q v.now t.now n e.old e.new }
-    ensures added_2 { Added i b r v.now t.now n o.old o.new }
+    ensures even_row { Added i c q v.now t.now n e.old e.new }
+    ensures odd_row { Added i b r v.now t.now n o.old o.new }
 {
-    let mut j = 0;
-    while j < n {
+    for j in 0..n {
         add_at(i, j, c, v, q, t, e);
         add_at(i, j, b, v, r, t, o);
-        j += 1;
     }
 }
 
@@ -68,7 +66,7 @@ fn middle_top(
     e: &[u64; 32],
     o: &[u64; 32],
 ) -> u64
-    requires le_p { (2 ≤ p) × (p ≤ 2 ^ 20) × (n ≤ 16) × (i + 2 ≤ n) × (b < p) × (r ≤ 2 * p) }
+    requires sizes { (2 ≤ p) × (p ≤ 2 ^ 20) × (n ≤ 16) × (i + 2 ≤ n) × (b < p) × (r ≤ 2 * p) }
     requires holds { Holds p n t.now × Holds p n v.now }
     requires half { Half p n 16 (i + 2) e.now × Half p n 16 (i + 2) o.now }
     ensures { result ≡ get_or e.now (i + n) 0 + (get_or o.now (i + n - 1) 0 + b * get_or v.now (n - 1) 0 + r * get_or t.now (n - 1) 0) }
@@ -90,7 +88,7 @@ fn next_top(
     e: &[u64; 32],
     o: &[u64; 32],
 ) -> u64
-    requires le_p { (2 ≤ p) × (p ≤ 2 ^ 20) × (n ≤ 16) × (i + 2 ≤ n) × (c < p) × (b < p) × (q ≤ 2 * p) × (r ≤ 2 * p) }
+    requires sizes { (2 ≤ p) × (p ≤ 2 ^ 20) × (n ≤ 16) × (i + 2 ≤ n) × (c < p) × (b < p) × (q ≤ 2 * p) × (r ≤ 2 * p) }
     requires holds { Holds p n t.now × Holds p n v.now }
     requires half { Half p n 16 (i + 2) e.now × Half p n 16 (i + 2) o.now }
     ensures { result ≡ get_or e.now (i + n - 1) 0 + c * get_or v.now (n - 1) 0 + q * get_or t.now (n - 1) 0 + (get_or o.now (i + n - 2) 0 + b * get_or v.now (n - 2) 0 + r * get_or t.now (n - 2) 0) }
@@ -101,6 +99,7 @@ fn next_top(
 
 // Two steps of Horner's rule: from the product of the words of u from word i + 2 on, whose top word is h, to that of the words from word i on, whose top word is
 // handed back.
+#[inline(always)]
 fn two_steps(
     d: Barrett,
     n: usize,
@@ -115,8 +114,8 @@ fn two_steps(
     requires reduces { Reduces d × (n ≤ 16) × (i + 2 ≤ n) }
     requires holds { Holds d.p n t.now × Holds d.p n u.now × Holds d.p n v.now }
     requires halves { Halves d.p n (n - (i + 2)) (i + 2) (product_of d.p (take n t.now) (drop (i + 2) (take n u.now)) (take n v.now)) e.old o.old }
-    requires h_value { h ≡ get_or (joined n (i + 2) e.old o.old) (n - 1) 0 }
-    ensures halves_2 { Halves d.p n (n - i) i (product_of d.p (take n t.now) (drop i (take n u.now)) (take n v.now)) e.new o.new }
+    requires top_word { h ≡ get_or (joined n (i + 2) e.old o.old) (n - 1) 0 }
+    ensures halves_after { Halves d.p n (n - i) i (product_of d.p (take n t.now) (drop i (take n u.now)) (take n v.now)) e.new o.new }
     ensures value { result ≡ get_or (joined n i e.new o.new) (n - 1) 0 }
 {
     let c = u[i];
@@ -139,9 +138,9 @@ fn start(
     e: &mut [u64; 32],
     o: &mut [u64; 32],
 ) -> u64
-    requires le_p { (2 ≤ p) × (p ≤ 2 ^ 20) × (1 ≤ n) × (n ≤ 16) }
+    requires sizes { (2 ≤ p) × (p ≤ 2 ^ 20) × (1 ≤ n) × (n ≤ 16) }
     requires holds { Holds p n t.now × Holds p n u.now × Holds p n v.now }
-    requires e_value { (e.old ≡ replicate 32 0) × (o.old ≡ replicate 32 0) }
+    requires zeros { (e.old ≡ replicate 32 0) × (o.old ≡ replicate 32 0) }
     ensures halves { Halves p n (n - 2 * (n / 2)) (2 * (n / 2)) (product_of p (take n t.now) (drop (2 * (n / 2)) (take n u.now)) (take n v.now)) e.new o.new }
     ensures value { result ≡ get_or (joined n (2 * (n / 2)) e.new o.new) (n - 1) 0 }
 {
@@ -154,6 +153,7 @@ fn start(
 }
 
 // u·v modulo T into e and o, which are 0; the words are not reduced. Handed back is the top word.
+#[inline(always)]
 fn accumulate(
     d: Barrett,
     n: usize,
@@ -165,14 +165,12 @@ fn accumulate(
 ) -> u64
     requires reduces { Reduces d × (1 ≤ n) × (n ≤ 16) }
     requires holds { Holds d.p n t.now × Holds d.p n u.now × Holds d.p n v.now }
-    requires e_value { (e.old ≡ replicate 32 0) × (o.old ≡ replicate 32 0) }
+    requires zeros { (e.old ≡ replicate 32 0) × (o.old ≡ replicate 32 0) }
     ensures halves { Halves d.p n n 0 (product_of d.p (take n t.now) (take n u.now) (take n v.now)) e.new o.new }
     ensures value { result ≡ get_or (joined n 0 e.new o.new) (n - 1) 0 }
 {
     let mut h = start(d.p, n, t, u, v, e, o);
-    let mut k = n / 2;
-    while k > 0 {
-        k -= 1;
+    for k in (0..n / 2).rev() {
         h = two_steps(d, n, 2 * k, t, u, v, h, e, o);
     }
     h
@@ -180,7 +178,7 @@ fn accumulate(
 
 // Word j of the joined words of e and o.
 fn joined_word(p: u64, n: usize, j: usize, e: &[u64; 32], o: &[u64; 32]) -> u64
-    requires p_bound { (p ≤ 2 ^ 20) × (n ≤ 16) × (j < n) }
+    requires sizes { (p ≤ 2 ^ 20) × (n ≤ 16) × (j < n) }
     requires halves { Halves p n n 0 (reduced p (take n (joined n 0 e.now o.now))) e.now o.now }
     ensures { (result ≡ get_or (joined n 0 e.now o.now) j 0) × (result ≤ 64 * (p * p)) }
 {
@@ -194,13 +192,11 @@ fn joined_word(p: u64, n: usize, j: usize, e: &[u64; 32], o: &[u64; 32]) -> u64
 fn reduce_joined(d: Barrett, n: usize, e: &[u64; 32], o: &[u64; 32], w: &mut [u64; 16])
     requires reduces { Reduces d × (n ≤ 16) }
     requires halves { Halves d.p n n 0 (reduced d.p (take n (joined n 0 e.now o.now))) e.now o.now }
-    requires w_value { w.old ≡ replicate 16 0 }
+    requires zeros { w.old ≡ replicate 16 0 }
     ensures { w.new ≡ padded (reduced d.p (take n (joined n 0 e.now o.now))) }
 {
-    let mut j = 0;
-    while j < n {
+    for j in 0..n {
         w[j] = d.reduce(joined_word(d.p, n, j, e, o));
-        j += 1;
     }
 }
 
@@ -214,7 +210,7 @@ fn shifted_word(
     e: &[u64; 32],
     o: &[u64; 32],
 ) -> u64
-    requires le_p { (2 ≤ p) × (p ≤ 2 ^ 20) × (n ≤ 16) × (j < n) × (q ≤ 2 * p) }
+    requires sizes { (2 ≤ p) × (p ≤ 2 ^ 20) × (n ≤ 16) × (j < n) × (q ≤ 2 * p) }
     requires holds { Holds p n t.now }
     requires halves { Halves p n n 0 (reduced p (take n (joined n 0 e.now o.now))) e.now o.now }
     ensures { (result ≡ get_or (0 ∷ joined n 0 e.now o.now) j 0 + q * get_or t.now j 0) × (result ≤ 64 * (p * p)) }
@@ -237,39 +233,54 @@ fn reduce_shifted(
 )
     requires reduces { Reduces d × (1 ≤ n) × (n ≤ 16) }
     requires holds { Holds d.p n t.now }
-    requires q_bound { (q ≤ 2 * d.p) × ((q + get_or (joined n 0 e.now o.now) (n - 1) 0) % d.p ≡ 0) }
+    requires opposite { (q ≤ 2 * d.p) × ((q + get_or (joined n 0 e.now o.now) (n - 1) 0) % d.p ≡ 0) }
     requires halves { Halves d.p n n 0 (reduced d.p (take n (joined n 0 e.now o.now))) e.now o.now }
-    requires w_value { w.old ≡ replicate 16 0 }
+    requires zeros { w.old ≡ replicate 16 0 }
     ensures { w.new ≡ padded (times_x d.p (take n t.now) (reduced d.p (take n (joined n 0 e.now o.now)))) }
 {
-    let mut j = 0;
-    while j < n {
+    for j in 0..n {
         w[j] = d.reduce(shifted_word(d.p, n, j, q, t, e, o));
-        j += 1;
     }
 }
 
-// u·v modulo T into w, which is 0, or X·u·v where x is true. The two arrays are made here, so that the compiler sees that they overlap with no other.
-pub fn multiply_times_x(
+// u·v modulo T into w, which is 0: the words of the sum are reduced once, at the end. The two
+// arrays are made here, and `accumulate` and `two_steps` are put in their place, so that the
+// compiler sees that the arrays overlap with no other; called, the two take a third longer.
+pub fn multiply_into(
     d: Barrett,
     n: usize,
     t: &[u64; 16],
     u: &[u64; 16],
     v: &[u64; 16],
-    x: bool,
     w: &mut [u64; 16],
 )
     requires reduces { Reduces d × (1 ≤ n) × (n ≤ 16) }
     requires holds { Holds d.p n t.now × Holds d.p n u.now × Holds d.p n v.now }
-    requires w_value { w.old ≡ replicate 16 0 }
-    ensures { w.new ≡ padded (times_x_if x d.p (take n t.now) (product_of d.p (take n t.now) (take n u.now) (take n v.now))) }
+    requires zeros { w.old ≡ replicate 16 0 }
+    ensures { w.new ≡ padded (product_of d.p (take n t.now) (take n u.now) (take n v.now)) }
+{
+    let mut e = [0; 32];
+    let mut o = [0; 32];
+    accumulate(d, n, t, u, v, &mut e, &mut o);
+    reduce_joined(d, n, &e, &o, w);
+}
+
+// X·u·v modulo T into w, which is 0, likewise.
+pub fn multiply_times_x_into(
+    d: Barrett,
+    n: usize,
+    t: &[u64; 16],
+    u: &[u64; 16],
+    v: &[u64; 16],
+    w: &mut [u64; 16],
+)
+    requires reduces { Reduces d × (1 ≤ n) × (n ≤ 16) }
+    requires holds { Holds d.p n t.now × Holds d.p n u.now × Holds d.p n v.now }
+    requires zeros { w.old ≡ replicate 16 0 }
+    ensures { w.new ≡ padded (times_x d.p (take n t.now) (product_of d.p (take n t.now) (take n u.now) (take n v.now))) }
 {
     let mut e = [0; 32];
     let mut o = [0; 32];
     let top = accumulate(d, n, t, u, v, &mut e, &mut o);
-    if x {
-        reduce_shifted(d, n, d.opposite(top), t, &e, &o, w);
-        return;
-    }
-    reduce_joined(d, n, &e, &o, w);
+    reduce_shifted(d, n, d.opposite(top), t, &e, &o, w);
 }

@@ -6,25 +6,23 @@ ghost use Rattle.array.specs.Array.{padded, Holds};
 ghost use Rattle.modular.specs.Barrett.{Reduces};
 ghost use Rattle.residue.specs.Delayed.{reduced, Delayed, Stepped};
 
-use crate::product::multiply_times_x;
+use crate::product::{multiply_into, multiply_times_x_into};
 use modular::barrett::{Barrett, times};
 use modular::word::add;
 
 // A step of Horner's rule by itself: w becomes X·w. Its top word goes out as q·t, where q is the opposite of the top word modulo p; no other word is reduced.
 fn step(p: u64, n: usize, t: &[u64; 16], q: u64, w: &mut [u64; 16])
-    requires le_p { (2 ≤ p) × (p ≤ 2 ^ 20) × (1 ≤ n) × (n ≤ 16) }
+    requires sizes { (2 ≤ p) × (p ≤ 2 ^ 20) × (1 ≤ n) × (n ≤ 16) }
     requires holds { Holds p n t.now }
-    requires q_bound { (q ≤ 2 * p) × ((q + get_or w.old (n - 1) 0) % p ≡ 0) }
+    requires opposite { (q ≤ 2 * p) × ((q + get_or w.old (n - 1) 0) % p ≡ 0) }
     requires delayed { Delayed p n 16 (reduced p (take n w.old)) w.old }
     ensures { Stepped p n (take n t.now) 0 (take n t.now) w.old w.new }
 {
     let mut carry = 0;
-    let mut j = 0;
-    while j < n {
+    for j in 0..n {
         let x = w[j];
         w[j] = carry + times(q, t[j]);
         carry = x;
-        j += 1;
     }
 }
 
@@ -34,10 +32,8 @@ fn reduce(d: Barrett, n: usize, w: &mut [u64; 16])
     requires delayed { Delayed d.p n 17 (reduced d.p (take n w.old)) w.old }
     ensures { w.new ≡ padded (reduced d.p (take n w.old)) }
 {
-    let mut j = 0;
-    while j < n {
+    for j in 0..n {
         w[j] = d.reduce(w[j]);
-        j += 1;
     }
 }
 
@@ -50,23 +46,6 @@ pub fn times_x(d: Barrett, n: usize, t: &[u64; 16], w: &mut [u64; 16])
     let q = d.p - w[n - 1];
     step(d.p, n, t, q, w);
     reduce(d, n, w);
-}
-
-// u·v modulo T into w, which is 0: the words of the sum are reduced once, at the end.
-fn multiply_into(
-    d: Barrett,
-    n: usize,
-    t: &[u64; 16],
-    u: &[u64; 16],
-    v: &[u64; 16],
-    w: &mut [u64; 16],
-)
-    requires reduces { Reduces d × (1 ≤ n) × (n ≤ 16) }
-    requires holds { Holds d.p n t.now × Holds d.p n u.now × Holds d.p n v.now }
-    requires w_value { w.old ≡ replicate 16 0 }
-    ensures { w.new ≡ padded (product_of d.p (take n t.now) (take n u.now) (take n v.now)) }
-{
-    multiply_times_x(d, n, t, u, v, false, w);
 }
 
 // u·v modulo T.
@@ -82,7 +61,7 @@ pub fn multiply(d: Barrett, n: usize, t: &[u64; 16], u: &[u64; 16], v: &[u64; 16
 
 // u·v modulo T.
 pub fn product(p: u64, n: usize, t: &[u64; 16], u: &[u64; 16], v: &[u64; 16]) -> [u64; 16]
-    requires le_p { (2 ≤ p) × (p ≤ 2 ^ 20) × (1 ≤ n) × (n ≤ 16) }
+    requires sizes { (2 ≤ p) × (p ≤ 2 ^ 20) × (1 ≤ n) × (n ≤ 16) }
     requires holds { Holds p n t.now × Holds p n u.now × Holds p n v.now }
     ensures { result ≡ padded (product_of p (take n t.now) (take n u.now) (take n v.now)) }
 {
@@ -91,7 +70,7 @@ pub fn product(p: u64, n: usize, t: &[u64; 16], u: &[u64; 16], v: &[u64; 16]) ->
 
 // X modulo T.
 pub fn residue_of_x(p: u64, n: usize, t: &[u64; 16]) -> [u64; 16]
-    requires le_p { (2 ≤ p) × (p ≤ 2 ^ 20) × (1 ≤ n) × (n ≤ 16) }
+    requires sizes { (2 ≤ p) × (p ≤ 2 ^ 20) × (1 ≤ n) × (n ≤ 16) }
     requires holds { Holds p n t.now }
     ensures { result ≡ padded (residue_of_x p (take n t.now)) }
 {
@@ -116,7 +95,7 @@ fn double(
 )
     requires reduces { Reduces d × (1 ≤ n) × (n ≤ 16) }
     requires holds { Holds d.p n t.now × Holds d.p n u.now × (half.now ≡ padded (power_of d.p (take n t.now) (take n u.now) (e / 2))) }
-    requires w_value { w.old ≡ replicate 16 0 }
+    requires zeros { w.old ≡ replicate 16 0 }
     ensures { w.new ≡ padded (power_of d.p (take n t.now) (take n u.now) e) }
 {
     if e % 2 == 0 {
@@ -132,7 +111,7 @@ fn double(
 fn power_by_halving(d: Barrett, n: usize, t: &[u64; 16], u: &[u64; 16], e: u64, w: &mut [u64; 16])
     requires reduces { Reduces d × (1 ≤ n) × (n ≤ 16) }
     requires holds { Holds d.p n t.now × Holds d.p n u.now }
-    requires w_value { w.old ≡ replicate 16 0 }
+    requires zeros { w.old ≡ replicate 16 0 }
     ensures { w.new ≡ padded (power_of d.p (take n t.now) (take n u.now) e) }
 {
     if e == 0 {
@@ -150,7 +129,7 @@ fn power_by_halving(d: Barrett, n: usize, t: &[u64; 16], u: &[u64; 16], e: u64, 
 
 // u^e modulo T.
 pub fn power(p: u64, n: usize, t: &[u64; 16], u: &[u64; 16], e: u64) -> [u64; 16]
-    requires le_p { (2 ≤ p) × (p ≤ 2 ^ 20) × (1 ≤ n) × (n ≤ 16) }
+    requires sizes { (2 ≤ p) × (p ≤ 2 ^ 20) × (1 ≤ n) × (n ≤ 16) }
     requires holds { Holds p n t.now × Holds p n u.now }
     ensures { result ≡ padded (power_of p (take n t.now) (take n u.now) e) }
 {
@@ -163,21 +142,21 @@ pub fn power(p: u64, n: usize, t: &[u64; 16], u: &[u64; 16], e: u64) -> [u64; 16
 fn raise(d: Barrett, n: usize, t: &[u64; 16], half: &[u64; 16], e: u64, w: &mut [u64; 16])
     requires reduces { Reduces d × (1 ≤ n) × (n ≤ 16) }
     requires holds { Holds d.p n t.now × (half.now ≡ padded (power_of d.p (take n t.now) (residue_of_x d.p (take n t.now)) (e / 2))) }
-    requires w_value { w.old ≡ replicate 16 0 }
+    requires zeros { w.old ≡ replicate 16 0 }
     ensures { w.new ≡ padded (power_of d.p (take n t.now) (residue_of_x d.p (take n t.now)) e) }
 {
     if e % 2 == 0 {
-        multiply_times_x(d, n, t, half, half, false, w);
+        multiply_into(d, n, t, half, half, w);
         return;
     }
-    multiply_times_x(d, n, t, half, half, true, w);
+    multiply_times_x_into(d, n, t, half, half, w);
 }
 
 // X^e modulo T into w, which is 0. An exponent below n needs no product.
 fn power_of_x_by_halving(d: Barrett, n: usize, t: &[u64; 16], e: u64, w: &mut [u64; 16])
     requires reduces { Reduces d × (1 ≤ n) × (n ≤ 16) }
     requires holds { Holds d.p n t.now }
-    requires w_value { w.old ≡ replicate 16 0 }
+    requires zeros { w.old ≡ replicate 16 0 }
     ensures { w.new ≡ padded (power_of d.p (take n t.now) (residue_of_x d.p (take n t.now)) e) }
 {
     if e < n as u64 {
@@ -191,7 +170,7 @@ fn power_of_x_by_halving(d: Barrett, n: usize, t: &[u64; 16], e: u64, w: &mut [u
 
 // X^p modulo T.
 pub fn frobenius_of_x(p: u64, n: usize, t: &[u64; 16]) -> [u64; 16]
-    requires le_p { (2 ≤ p) × (p ≤ 2 ^ 20) × (1 ≤ n) × (n ≤ 16) }
+    requires sizes { (2 ≤ p) × (p ≤ 2 ^ 20) × (1 ≤ n) × (n ≤ 16) }
     requires holds { Holds p n t.now }
     ensures { result ≡ padded (power_of p (take n t.now) (residue_of_x p (take n t.now)) p) }
 {
@@ -208,9 +187,7 @@ fn horner(d: Barrett, n: usize, t: &[u64; 16], s: &[u64; 16], u: &[u64; 16]) -> 
 {
     let mut w = [0; 16];
     w[0] = u[n - 1];
-    let mut i = n - 1;
-    while i > 0 {
-        i -= 1;
+    for i in (0..n - 1).rev() {
         w = multiply(d, n, t, s, &w);
         w[0] = add(d.p, w[0], u[i]);
     }
@@ -219,7 +196,7 @@ fn horner(d: Barrett, n: usize, t: &[u64; 16], s: &[u64; 16], u: &[u64; 16]) -> 
 
 // u(S) modulo T.
 pub fn substitute(p: u64, n: usize, t: &[u64; 16], s: &[u64; 16], u: &[u64; 16]) -> [u64; 16]
-    requires le_p { (2 ≤ p) × (p ≤ 2 ^ 20) × (1 ≤ n) × (n ≤ 16) }
+    requires sizes { (2 ≤ p) × (p ≤ 2 ^ 20) × (1 ≤ n) × (n ≤ 16) }
     requires holds { Holds p n t.now × Holds p n s.now × Holds p n u.now }
     ensures { result ≡ padded (substitute_of p (take n t.now) (take n s.now) (take n u.now)) }
 {

@@ -1,7 +1,6 @@
 -- X times the joined words: the words of that, read one after another and reduced.
 --   shifted n q t e o   the array that holds X times the joined words, whose top word has gone out as q·t
 use mathlib.Core.Path.{◌≡◌, sym, ap, ap₂, ◌∙◌}
-use mathlib.Core.Bool.{Bool, true, false}
 use mathlib.Core.List.{List, [], ◌∷◌}
 use Prim.Native.Nat.{ℕ, suc, ◌+◌, ◌-◌, ◌*◌, ◌%◌, ◌^◌, ◌≤◌, ◌<◌}
 use native.Mathlib.Nat as Nat
@@ -16,7 +15,7 @@ use Rattle.array.specs.Words.{Words, none, more}
 use Rattle.array.specs.Array.{padded, Holds}
 use Rattle.array.proofs.Painted.{painted, table, table-length, painted_turn}
 use Rattle.array.proofs.Padded.{array_fits, painted-table, take-padded}
-use Rattle.residue.specs.Delayed.{reduced, times_x_if, joined, Halves}
+use Rattle.residue.specs.Delayed.{reduced, joined, Halves}
 use Rattle.residue.proofs.Horner.{term, step_mod}
 use Rattle.residue.proofs.Step.{word_short, taken_small, delayed_word}
 use Rattle.residue.proofs.Remainders.{remainder, table-remainder}
@@ -97,8 +96,8 @@ module _ (p n top : ℕ) (t s e o w : List ℕ) (H : Halves p n n 0 s e o) where
   pub top_opposite : (q : ℕ) → top ≡ get_or (joined n 0 e o) (n - 1) 0 → (q + top) % p ≡ 0 → (q + get_or (joined n 0 e o) (n - 1) 0) % p ≡ 0
   top_opposite q f h = ap (λ a. (q + a) % p) (sym f) ∙ h
 
-  pub shifted_is : (x : Bool) → x ≡ true → w ≡ padded (times_x p (take n t) (reduced p (take n (joined n 0 e o)))) → w ≡ padded (times_x_if x p (take n t) s)
-  shifted_is x b f = rw b (f ∙ ap (λ r. padded (times_x p (take n t) r)) H.delayed.words)
+  pub shifted_is : w ≡ padded (times_x p (take n t) (reduced p (take n (joined n 0 e o)))) → w ≡ padded (times_x p (take n t) s)
+  shifted_is f = f ∙ ap (λ r. padded (times_x p (take n t) r)) H.delayed.words
 
-  pub joined_is : (x : Bool) → x ≡ false → w ≡ padded (reduced p (take n (joined n 0 e o))) → w ≡ padded (times_x_if x p (take n t) s)
-  joined_is x b f = rw b (f ∙ ap padded H.delayed.words)
+  pub joined_is : w ≡ padded (reduced p (take n (joined n 0 e o))) → w ≡ padded s
+  joined_is f = f ∙ ap padded H.delayed.words

@@ -57,11 +57,6 @@ substitute_starts p n t s u big h l x y z =
     ∙ ap (λ l. sum p (constant (length (take n t)) c) (product p (take n t) (take n s) (substitute p (take n t) (take n s) l))) (sym none)
     ∙ sym (substitute_at p n n (take n t) (take n s) u h (Nat.le_refl n) (words_length z.words)))
 
-pub substitute_done : (p i : ℕ) (t s u w : List ℕ) → i ≤ 0 → w ≡ padded (substitute p t s (drop i u)) → w ≡ padded (substitute p t s u)
-substitute_done p i t s u w h e =
-    let z : i ≡ 0 = omega arith in
-    e ∙ ap (λ k. padded (substitute p t s (drop k u))) z
-
 module _ (p n i : ℕ) (t s u w : List ℕ) (e : w ≡ padded (substitute p (take n t) (take n s) (drop i (take n u))))
     (big : 2 ≤ p) (x : Holds p n t) (y : Holds p n s) (z : Holds p n u) where
   rest_words : Words p n (substitute p (take n t) (take n s) (drop i (take n u)))
@@ -70,7 +65,7 @@ module _ (p n i : ℕ) (t s u w : List ℕ) (e : w ≡ padded (substitute p (tak
   pub substitute_holds : Holds p n w
   substitute_holds = holds_is e rest_words
 
-  module _ (r : List ℕ) (f : r ≡ padded (product p (take n t) (take n s) (take n w))) (l : 0 < i) (m : i ≤ n) where
+  module _ (r : List ℕ) (f : r ≡ padded (product p (take n t) (take n s) (take n w))) (l : 0 < i) (m : i ≤ n - 1) where
     next_words : Words p n (product p (take n t) (take n s) (take n w))
     next_words = product_words big x.words (take n s) substitute_holds.words
 
@@ -85,4 +80,4 @@ module _ (p n i : ℕ) (t s u w : List ℕ) (e : w ≡ padded (substitute p (tak
         ∙ constant-sum (omega arith) next_words c
         ∙ ap padded
         (ap₂ (λ k l. sum p (constant k c) (product p (take n t) (take n s) l)) (sym (words_length x.words)) (front_is e rest_words)
-        ∙ sym (substitute_at p n i (take n t) (take n s) u l m (words_length z.words)))
+        ∙ sym (substitute_at p n i (take n t) (take n s) u l (omega arith) (words_length z.words)))

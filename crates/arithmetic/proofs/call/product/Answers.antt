@@ -11,11 +11,13 @@ load-requires-2 c = search (first_short, second_short, third_short, c.in_ok-sent
 pub load-requires-3 : goal.load-requires-3
 load-requires-3 c = search (first_short, second_short, third_short, c.in_ok-sent.ensures)
 
-pub product-requires-clause-le_p : goal.product-requires-clause-le_p
-product-requires-clause-le_p c = search (in_range, c.in_ok-sent.ensures)
+pub product-requires-clause-sizes : goal.product-requires-clause-sizes
+product-requires-clause-sizes c = search (in_range, c.in_ok-sent.ensures)
 
 pub product-requires-clause-holds : goal.product-requires-clause-holds
-product-requires-clause-holds c = (search (first_holds, second_holds, third_holds, c.in_ok-sent.ensures), search (first_holds, second_holds, third_holds, c.in_ok-sent.ensures), search (first_holds, second_holds, third_holds, c.in_ok-sent.ensures))
+product-requires-clause-holds c =
+    let sent = c.in_ok-sent.ensures in
+    (search (first_holds, second_holds, third_holds), search (first_holds, second_holds, third_holds), search (first_holds, second_holds, third_holds))
 
 pub store-requires : goal.store-requires
 store-requires c = (search (output_short, c.in_ok-sent.ensures), search (product_stores, c.in_ok-sent.ensures))

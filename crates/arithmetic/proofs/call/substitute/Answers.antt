@@ -11,11 +11,13 @@ load-requires-2 c = search (first_short, second_short, third_short, c.in_ok-sent
 pub load-requires-3 : goal.load-requires-3
 load-requires-3 c = search (first_short, second_short, third_short, c.in_ok-sent.ensures)
 
-pub substitute-requires-clause-le_p : goal.substitute-requires-clause-le_p
-substitute-requires-clause-le_p c = search (in_range, c.in_ok-sent.ensures)
+pub substitute-requires-clause-sizes : goal.substitute-requires-clause-sizes
+substitute-requires-clause-sizes c = search (in_range, c.in_ok-sent.ensures)
 
 pub substitute-requires-clause-holds : goal.substitute-requires-clause-holds
-substitute-requires-clause-holds c = (search (first_holds, second_holds, third_holds, c.in_ok-sent.ensures), search (first_holds, second_holds, third_holds, c.in_ok-sent.ensures), search (first_holds, second_holds, third_holds, c.in_ok-sent.ensures))
+substitute-requires-clause-holds c =
+    let sent = c.in_ok-sent.ensures in
+    (search (first_holds, second_holds, third_holds), search (first_holds, second_holds, third_holds), search (first_holds, second_holds, third_holds))
 
 pub store-requires : goal.store-requires
 store-requires c = (search (output_short, c.in_ok-sent.ensures), search (substitute_stores, c.in_ok-sent.ensures))

@@ -1,6 +1,6 @@
 -- Before the turn for the words 2·k − 1 and 2·k − 2 of u, the arrays hold the product of the words of u from 2·k on, and h is its top word.
 use mathlib.Core.Path.{◌≡◌}
-use Prim.Native.Nat.{◌-◌, ◌*◌, ◌≤◌}
+use Prim.Native.Nat.{◌-◌, ◌*◌}
 use lib.ListN.{get_or, take, drop}
 use Rattle.quotient.specs.Residue.{product}
 use Rattle.residue.specs.Delayed.{joined, Halves}
@@ -8,8 +8,5 @@ use Rattle.residue.proofs.product.accumulate.Given as goal
 
 abbrev pub invariant-loop-k : goal.invariant-loop-k
 invariant-loop-k l =
-    (2 * l.k ≤ l.n) × Halves l.d.p l.n (l.n - 2 * l.k) (2 * l.k) (product l.d.p (take l.n l.t) (drop (2 * l.k) (take l.n l.u)) (take l.n l.v)) l.e l.o
+    Halves l.d.p l.n (l.n - 2 * l.k) (2 * l.k) (product l.d.p (take l.n l.t) (drop (2 * l.k) (take l.n l.u)) (take l.n l.v)) l.e l.o
     × (l.h ≡ get_or (joined l.n (2 * l.k) l.e l.o) (l.n - 1) 0)
-
-abbrev pub decreases-loop-k : goal.decreases-loop-k
-decreases-loop-k l = l.k

@@ -1,10 +1,6 @@
 -- Before turn j the rows are added to the first j words from word i on, in both arrays.
-use Prim.Native.Nat.{◌-◌, ◌≤◌}
 use Rattle.residue.specs.Delayed.{Added}
 use Rattle.residue.proofs.product.add_rows.Given as goal
 
 abbrev pub invariant-loop-j : goal.invariant-loop-j
-invariant-loop-j l = (l.j ≤ l.n) × Added l.i l.c l.q l.v l.t l.j l.initial.e l.e × Added l.i l.b l.r l.v l.t l.j l.initial.o l.o
-
-abbrev pub decreases-loop-j : goal.decreases-loop-j
-decreases-loop-j l = l.n - l.j
+invariant-loop-j l = Added l.i l.c l.q l.v l.t l.j l.initial.e l.e × Added l.i l.b l.r l.v l.t l.j l.initial.o l.o

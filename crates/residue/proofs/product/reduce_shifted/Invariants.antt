@@ -1,6 +1,5 @@
 -- Before turn j the first j words are those of X times the joined words, modulo p.
 use mathlib.Core.Path.{◌≡◌}
-use Prim.Native.Nat.{◌-◌, ◌≤◌}
 use lib.ListN.{replicate}
 use Rattle.array.proofs.Painted.{painted}
 use Rattle.residue.proofs.Remainders.{remainder}
@@ -8,7 +7,4 @@ use Rattle.residue.proofs.product.ShiftLoop.{shifted}
 use Rattle.residue.proofs.product.reduce_shifted.Given as goal
 
 abbrev pub invariant-loop-j : goal.invariant-loop-j
-invariant-loop-j l = (l.j ≤ l.n) × (l.w ≡ painted (replicate 16 0) (remainder l.d.p (shifted l.n l.q l.t l.e l.o)) l.j)
-
-abbrev pub decreases-loop-j : goal.decreases-loop-j
-decreases-loop-j l = l.n - l.j
+invariant-loop-j l = l.w ≡ painted (replicate 16 0) (remainder l.d.p (shifted l.n l.q l.t l.e l.o)) l.j

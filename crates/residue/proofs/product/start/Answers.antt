@@ -11,8 +11,8 @@ returns-then-n-eq0-clause-halves c = search even_start
 pub returns-then-n-eq0-clause-value : goal.returns-then-n-eq0-clause-value
 returns-then-n-eq0-clause-value c = search even_top
 
-pub add_rows-requires-clause-c_lt_p : goal.add_rows-requires-clause-c_lt_p
-add_rows-requires-clause-c_lt_p c = (search top_word, search rules, search rules, search rules)
+pub add_rows-requires-clause-factors : goal.add_rows-requires-clause-factors
+add_rows-requires-clause-factors c = (search top_word, search rules, search rules, search rules)
 
 pub add_rows-requires-clause-half : goal.add_rows-requires-clause-half
 add_rows-requires-clause-half c = (search blank_half, search blank_half)

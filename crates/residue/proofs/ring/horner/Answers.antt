@@ -1,17 +1,17 @@
-use Rattle.std.proofs.Common.{rules}
-use Rattle.residue.proofs.DelayedProduct.{next_word}
+use Rattle.std.proofs.Common.{rules, arith}
+use Rattle.array.proofs.Padded.{holds_word}
 use Rattle.residue.proofs.ring.HornerLoop.{substitute_starts, substitute_holds, lowest_below, substitute_turn}
 use Rattle.residue.proofs.ring.horner.Goals as goal
 
 pub loop-i-init : goal.loop-i-init
-loop-i-init c = (search rules, search substitute_starts)
+loop-i-init c = search substitute_starts
 
 pub multiply-w-requires-clause-holds : goal.multiply-w-requires-clause-holds
 multiply-w-requires-clause-holds c = (search rules, search rules, search substitute_holds)
 
 pub add-requires : goal.add-requires
 add-requires c =
-    (search rules, lowest_below _ _ _ _ _ _ _ c.loop-i.invariant.1 c.requires.reduces.0.big c.requires.holds.0 c.requires.holds.1 c.requires.holds.2 _ c.multiply-w.ensures c.loop-i-test.true c.loop-i.invariant.0, search next_word)
+    (search rules, lowest_below _ _ _ _ _ _ _ c.loop-i.invariant c.requires.reduces.0.big c.requires.holds.0 c.requires.holds.1 c.requires.holds.2 _ c.multiply-w.ensures c.loop-i-test.true c.loop-i.auto.i, holds_word c.requires.holds.2 _ (omega arith))
 
 pub loop-i-preserved : goal.loop-i-preserved
-loop-i-preserved c = (search rules, search substitute_turn)
+loop-i-preserved c = search substitute_turn

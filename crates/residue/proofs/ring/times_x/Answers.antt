@@ -6,8 +6,8 @@ use Rattle.residue.proofs.ring.times_x.Goals as goal
 pub overflow_sub-q-2 : goal.overflow_sub-q-2
 overflow_sub-q-2 c = search top_below
 
-pub step-requires-clause-q_bound : goal.step-requires-clause-q_bound
-step-requires-clause-q_bound c = (search rules, search opposite_zero)
+pub step-requires-clause-opposite : goal.step-requires-clause-opposite
+step-requires-clause-opposite c = (search rules, search opposite_zero)
 
 pub step-requires-clause-delayed : goal.step-requires-clause-delayed
 step-requires-clause-delayed c = search word_delayed
