@@ -1,12 +1,12 @@
 // The finder on arrays of 16 words: Algorithm 2.1 with the choices of document 01, normalised as document 02, S-6, says, where n divides p − 1; where n is a power of p, Algorithm 4.1
 // with the choice of S-7.
-ghost use Rattle.std.specs.Prelude.{true, ◌≡◌, ◌^◌, ◌≤◌, ◌<◌, length, take, IfOk};
+ghost use Rattle.std.specs.Prelude.{◌≡◌, ◌^◌, ◌≤◌, ◌<◌, length, take, IfOk};
 ghost use Rattle.algebra.specs.Prime.{Prime};
 ghost use Rattle.array.specs.Array.{Holds};
 ghost use Rattle.refusal.specs.Number.{number_of};
 ghost use Rattle.finder.specs.Construct.{Size, Choices, FoundPair};
 ghost use Rattle.finder.specs.Finder.{refuse_find};
-ghost use Rattle.roots.specs.Roots.{zeta as zeta_of, Admissible};
+ghost use Rattle.roots.specs.Roots.{zeta, Admissible};
 ghost use Rattle.frobenius.specs.Kernel.{EigenvectorFound};
 
 use frobenius::eigenvector::{Normalised, eigenvector};
@@ -67,11 +67,11 @@ fn from_scalings(
     m: &mut [u64; 256],
 ) -> Pair
     requires admissible { Admissible p n }
-    requires zeta { (z < p) × (z ≡ zeta_of p n) }
+    requires zeta { (z < p) × (z ≡ zeta p n) }
     requires holds { Holds p n t1.now × Holds p n t2.now }
     requires matrix_size { length m.old ≡ 256 }
-    requires first_found { EigenvectorFound p n (take n t1.now) z true first.vector first.constant }
-    requires second_found { EigenvectorFound p n (take n t2.now) z true second.vector second.constant }
+    requires first_found { EigenvectorFound p n (take n t1.now) z first.vector first.constant }
+    requires second_found { EigenvectorFound p n (take n t2.now) z second.vector second.constant }
     ensures { FoundPair p n (take n t1.now) (take n t2.now) 0 result.forward result.backward }
 {
     let a = radicand(p, n as u64, z);
@@ -90,14 +90,8 @@ fn from_eigenvectors(p: u64, n: usize, t1: &[u64; 16], t2: &[u64; 16]) -> Result
 {
     let mut m = [0; 256];
     let z = zeta(p, n as u64);
-    let first = eigenvector(p, n, z, t1, &mut m);
-    if !first.found {
-        return Err(Refusal::FirstModulus);
-    }
-    let second = eigenvector(p, n, z, t2, &mut m);
-    if !second.found {
-        return Err(Refusal::SecondModulus);
-    }
+    let first = eigenvector(p, n, z, t1, &mut m).ok_or(Refusal::FirstModulus)?;
+    let second = eigenvector(p, n, z, t2, &mut m).ok_or(Refusal::SecondModulus)?;
     Ok(from_scalings(p, n, z, t1, t2, first, second, &mut m))
 }
 

@@ -15,7 +15,7 @@ use traces::polynomial::expression;
 // said of P.
 fn by_elimination(p: u64, n: usize, t: &[u64; 16], m: &[u64; 256]) -> [u64; 16]
     requires prime { Prime p }
-    requires p_bound { (p ≤ 2 ^ 20) × (1 ≤ n) × (n ≤ 16) }
+    requires sizes { (p ≤ 2 ^ 20) × (1 ≤ n) × (n ≤ 16) }
     requires holds { Holds p n t.now × Square p n m.now }
     ensures { Expression p n (take n t.now) m.now result }
 {
@@ -29,7 +29,7 @@ fn by_elimination(p: u64, n: usize, t: &[u64; 16], m: &[u64; 256]) -> [u64; 16]
 // Whether a polynomial has the value X modulo T at a1.
 fn is_expression(p: u64, n: usize, t: &[u64; 16], m: &[u64; 256], polynomial: &[u64; 16]) -> bool
     requires prime { Prime p }
-    requires p_bound { (p ≤ 2 ^ 20) × (1 ≤ n) × (n ≤ 16) }
+    requires sizes { (p ≤ 2 ^ 20) × (1 ≤ n) × (n ≤ 16) }
     requires holds { Holds p n t.now × Square p n m.now × Holds p n polynomial.now }
     ensures { result ≡ true → Expression p n (take n t.now) m.now polynomial.now }
 {
@@ -40,7 +40,7 @@ fn is_expression(p: u64, n: usize, t: &[u64; 16], m: &[u64; 256], polynomial: &[
 // The polynomial P by traces, as it is where a1^n is the constant a; if that fails the test, or a is 0, by elimination.
 fn polynomial(p: u64, n: usize, a: u64, t: &[u64; 16], m: &[u64; 256]) -> [u64; 16]
     requires prime { Prime p }
-    requires p_bound { (p ≤ 2 ^ 20) × (1 ≤ n) × (n ≤ 16) × (a < p) }
+    requires sizes { (p ≤ 2 ^ 20) × (1 ≤ n) × (n ≤ 16) × (a < p) }
     requires holds { Holds p n t.now × Square p n m.now }
     ensures { Expression p n (take n t.now) m.now result }
 {
@@ -58,7 +58,7 @@ fn polynomial(p: u64, n: usize, a: u64, t: &[u64; 16], m: &[u64; 256]) -> [u64; 
 // where a1^n is none.
 pub fn image(p: u64, n: usize, a: u64, t: &[u64; 16], m1: &[u64; 256], m2: &[u64; 256]) -> [u64; 16]
     requires prime { Prime p }
-    requires p_bound { (p ≤ 2 ^ 20) × (1 ≤ n) × (n ≤ 16) × (a < p) }
+    requires sizes { (p ≤ 2 ^ 20) × (1 ≤ n) × (n ≤ 16) × (a < p) }
     requires holds { Holds p n t.now }
     requires square { Square p n m1.now × Square p n m2.now }
     ensures { Image p n (take n t.now) m1.now m2.now result }

@@ -1,9 +1,9 @@
 // The kernel of the linear map u ↦ u^p − z·u on residues modulo T: Lagrange's resolvent, if it passes the test, or else by elimination.
-ghost use Rattle.std.specs.Prelude.{true, ◌≡◌, ◌^◌, ◌≤◌, ◌<◌, length, take};
+ghost use Rattle.std.specs.Prelude.{true, ◌≡◌, ◌^◌, ◌≤◌, ◌<◌, length, take, MatchOption};
 ghost use Rattle.algebra.specs.Prime.{Prime};
 ghost use Rattle.array.specs.Array.{Square, Holds};
 ghost use Rattle.matrix.specs.Matrix.{Frobenius};
-ghost use Rattle.frobenius.specs.Kernel.{Stretched, KernelOf};
+ghost use Rattle.frobenius.specs.Kernel.{Stretched, Kernel, TrivialKernel};
 
 use comparison::equality::same;
 use linear::system::{Solution, solve};
@@ -15,7 +15,7 @@ use scalar::vector::{first_non_zero, scale};
 
 // Whether v is not 0 and the matrix m takes it to z·v.
 fn is_eigenvector(p: u64, n: usize, z: u64, m: &[u64; 256], v: &[u64; 16]) -> bool
-    requires le_p { (2 ≤ p) × (p ≤ 2 ^ 20) × (n ≤ 16) × (z < p) }
+    requires sizes { (2 ≤ p) × (p ≤ 2 ^ 20) × (n ≤ 16) × (z < p) }
     requires square { Square p n m.now × Holds p n v.now }
     ensures { result ≡ true → Stretched p n z m.now (take n v.now) }
 {
@@ -27,27 +27,30 @@ fn is_eigenvector(p: u64, n: usize, z: u64, m: &[u64; 256], v: &[u64; 16]) -> bo
     same(n, &image, &multiple)
 }
 
-// The kernel of u ↦ u^p − z·u by elimination, from the matrix m of u ↦ u^p. The system is written into m.
-fn by_elimination(p: u64, n: usize, z: u64, t: &[u64; 16], m: &mut [u64; 256]) -> Solution
+// A vector other than 0 in the kernel of u ↦ u^p − z·u, if there is one, by elimination from the matrix m of u ↦ u^p. The system is written into m.
+fn by_elimination(p: u64, n: usize, z: u64, t: &[u64; 16], m: &mut [u64; 256]) -> Option<[u64; 16]>
     requires prime { Prime p }
-    requires p_bound { (p ≤ 2 ^ 20) × (1 ≤ n) × (n ≤ 16) × (z < p) }
+    requires sizes { (p ≤ 2 ^ 20) × (1 ≤ n) × (n ≤ 16) × (z < p) }
     requires holds { Holds p n t.now }
     requires frobenius { Frobenius p n (take n t.now) m.old }
-    ensures kernel { KernelOf p n (take n t.now) z result }
-    ensures m_len { length m.new ≡ 256 }
+    ensures kernel { MatchOption result (TrivialKernel p n (take n t.now) z) (λ v. Kernel p n (take n t.now) z v) }
+    ensures matrix_size { length m.new ≡ 256 }
 {
     minus(p, n, z, m);
-    solve(p, n, m, [0; 16])
+    match solve(p, n, m, [0; 16]) {
+        Solution::Unique(_) => None,
+        Solution::NullVector(v) => Some(v),
+    }
 }
 
-// The kernel of u ↦ u^p − z·u: the resolvent, if it passes the test, else by elimination. For n < 4 elimination is as fast. The array m is worked on.
-pub fn kernel(p: u64, n: usize, z: u64, t: &[u64; 16], m: &mut [u64; 256]) -> Solution
+// A vector other than 0 in the kernel of u ↦ u^p − z·u, if there is one: the resolvent, if it passes the test, else by elimination. For n < 4 elimination is as fast. The array m is worked on.
+pub fn kernel(p: u64, n: usize, z: u64, t: &[u64; 16], m: &mut [u64; 256]) -> Option<[u64; 16]>
     requires prime { Prime p }
-    requires p_bound { (p ≤ 2 ^ 20) × (1 ≤ n) × (n ≤ 16) × (z < p) }
+    requires sizes { (p ≤ 2 ^ 20) × (1 ≤ n) × (n ≤ 16) × (z < p) }
     requires holds { Holds p n t.now }
-    requires m_len { length m.old ≡ 256 }
-    ensures kernel { KernelOf p n (take n t.now) z result }
-    ensures m_len_2 { length m.new ≡ 256 }
+    requires matrix_size { length m.old ≡ 256 }
+    ensures kernel { MatchOption result (TrivialKernel p n (take n t.now) z) (λ v. Kernel p n (take n t.now) z v) }
+    ensures matrix_size { length m.new ≡ 256 }
 {
     frobenius(p, n, t, m);
     if n < 4 {
@@ -55,7 +58,7 @@ pub fn kernel(p: u64, n: usize, z: u64, t: &[u64; 16], m: &mut [u64; 256]) -> So
     }
     let v = resolvent(p, n, z, m);
     if is_eigenvector(p, n, z, m, &v) {
-        return Solution::NullVector(v);
+        return Some(v);
     }
     by_elimination(p, n, z, t, m)
 }

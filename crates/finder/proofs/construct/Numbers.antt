@@ -11,7 +11,6 @@ use Rattle.refusal.specs.Refusal.{refuse}
 use Rattle.roots.specs.Roots.{Admissible}
 use Rattle.galois.specs.Tower.{exponent}
 use Rattle.galois.proofs.Exponent.{exponent_is}
-use Rattle.frobenius.proofs.KernelAnswer.{not-not}
 use Rattle.finder.specs.Construct.{Size}
 use Rattle.finder.specs.Finder.{refuse_find}
 use Rattle.finder.proofs.Findable.{findable-true, findable-false}
@@ -33,10 +32,6 @@ module _ (p n : ℕ) where
     second_size prime small low high = record { prime = prime; small = small; low = low; high = high; findable = inr (k, positive, exponent_size) }
 
 -- the number
-
--- an answer that says whether a modulus has no proper divisor
-pub divisor_of : {f d : Bool} → f ≡ not d → d ≡ not f
-divisor_of {f} {d} e = sym (not-not d) ∙ ap not (sym e)
 
 module _ (p n : ℕ) (t1 t2 : List ℕ) where
   pub number_from : Size p n → {c d : Bool} → has_divisor p t1 ≡ c → has_divisor p t2 ≡ d → refuse_find p n t1 t2 ≡ refuse 6 c (refuse 7 d 0)

@@ -1,7 +1,7 @@
 -- The kernel of u ↦ u^p − z·u on residues modulo T. In row i, M − z has the product of row i of M with u, minus z times word i of u; where the
 -- columns of M are the powers of X^p, that product is word i of u(X^p) = u^p. So (M − z)·u = 0 says u^p = z·u.
-use mathlib.Core.Path.{◌≡◌, sym, ap, ◌∙◌}
-use mathlib.Core.Bool.{Bool, true, false}
+use mathlib.Core.Path.{◌≡◌, refl, sym, ap, ◌∙◌}
+use mathlib.Core.Bool.{true, false}
 use mathlib.Core.List.{List, []}
 use Prim.Native.Nat.{ℕ, ◌+◌, ◌-◌, ◌*◌, ◌%◌, ◌≤◌, ◌<◌}
 use native.Mathlib.Nat.{add_assoc, add_comm, add-mul-mod_self_left, mod-add-mod, mod-eq_of_lt, mul-mod_right, zero-add, zero-mod}
@@ -9,9 +9,7 @@ use native.Mathlib.Omega.{arith}
 use lib.ListN.{get_or, take, replicate}
 use Rattle.algebra.specs.Prime.{Prime}
 use Rattle.array.specs.Array.{Square, Holds}
-use Rattle.linear.specs.System.{Solves, Outcome, SolutionOf}
-use Rattle.linear.specs.declared.system.Solution.{Solution}
-use Rattle.linear.specs.declared.system.Solution.TheVariants.{Unique, NullVector}
+use Rattle.linear.specs.System.{Solves, Outcome}
 use Rattle.array.specs.Words.{Words}
 use Rattle.quotient.specs.Residue.{scale, power, residue_of_x, substitute}
 use Rattle.quotient.proofs.Frobenius.{frobenius_substitutes}
@@ -21,7 +19,7 @@ use Rattle.matrix.specs.Matrix.{Powers, Frobenius}
 use Rattle.quotient.proofs.SumOfPowers.{scale_word}
 use Rattle.matrix.proofs.FrobeniusMatrix.{power_x_words}
 use Rattle.array.proofs.Padded.{words_at}
-use Rattle.frobenius.specs.Kernel.{Kernel, KernelOf}
+use Rattle.frobenius.specs.Kernel.{Kernel, TrivialKernel}
 use Rattle.scalar.specs.Shifted.{Shifted}
 use Rattle.scalar.proofs.ShiftedMatrix.{shifted_word, shifted_square, complement}
 
@@ -71,20 +69,18 @@ module _ (p n : ℕ) (t m c : List ℕ) (z : ℕ) (prime : Prime p) (below : z <
     pub kernel_square : Square p n c
     kernel_square = shifted_square prime ht.words words frobenius z below shifted
 
-    kernel_is : (r : Bool) (v : List ℕ) → Outcome p n c (replicate 16 0) r v → Kernel p n T z r v
-    kernel_is r v outcome =
+    pub trivial_kernel : (v : List ℕ) → Outcome p n c (replicate 16 0) true v → TrivialKernel p n T z
+    trivial_kernel v outcome u wu h =
+        (outcome.if_regular refl).trivial u wu
+        (value_kernel prime ht.words words frobenius z below shifted wu (sym (frobenius_substitutes prime ht.words (u, wu)) ∙ h))
+        ∙ sym (constant-zero n)
+
+    pub kernel_is : (v : List ℕ) → Outcome p n c (replicate 16 0) false v → Kernel p n T z v
+    kernel_is v outcome =
         record {
           holds = outcome.holds;
-          if_regular = λ e u wu h.
-              (outcome.if_regular e).trivial u wu
-              (value_kernel prime ht.words words frobenius z below shifted wu (sym (frobenius_substitutes prime ht.words (u, wu)) ∙ h))
-              ∙ sym (constant-zero n);
-          not_zero = λ e h. (outcome.if_singular e).nonzero (h ∙ constant-zero n);
-          power_is = λ e.
+          not_zero = λ h. (outcome.if_singular refl).nonzero (h ∙ constant-zero n);
+          power_is =
               frobenius_substitutes prime ht.words (take n v, outcome.holds.words)
-              ∙ kernel_value prime ht.words words frobenius z below shifted outcome.holds.words (outcome.if_singular e).solves;
+              ∙ kernel_value prime ht.words words frobenius z below shifted outcome.holds.words (outcome.if_singular refl).solves;
         }
-
-    pub kernel_of : (s : Solution) → SolutionOf p n c (replicate 16 0) s → KernelOf p n T z s
-    kernel_of (Unique v) outcome = kernel_is true v outcome
-    kernel_of (NullVector v) outcome = kernel_is false v outcome

@@ -22,14 +22,7 @@ product_length : (p n : ℕ) (m u : List ℕ) → length (matrix_product p n m u
 unfolding matrix_product
 product_length p n m u = length-map (range 0 n) (λ i. row_product m i 0 u % p) ∙ range_length 0 n
 
--- no vector that fails the test is said to pass it
-pub test_failed : (p n z : ℕ) (m u : List ℕ) → false ≡ true → Stretched p n z m u
-test_failed p n z m u e = absurd (false≢true e)
-
 module _ (p n z : ℕ) (m v : List ℕ) (hv : Holds p n v) where
-  pub multiple_length : n ≤ 16 → (s : List ℕ) → s ≡ padded (scale p z (take n v)) → length s ≡ 16
-  multiple_length short s es = array_length n s short (holds_is es (scale_words z hv.words)).zeros
-
   pub test_passed : (w s : List ℕ) → w ≡ padded (matrix_product p n m (take n v)) → s ≡ padded (scale p z (take n v)) → (f : ℕ) → f ≡ first_non_zero (take n v) → (f ≡ 0 → ⊥)
       → (r : Bool) → r ≡ equal (take n w) (take n s) → r ≡ true → Stretched p n z m (take n v)
   test_passed w s ew es f ef other r er e =
@@ -40,11 +33,6 @@ module _ (p n z : ℕ) (m v : List ℕ) (hv : Holds p n v) where
             ∙ of_equal (take n w) (take n s) (sym er ∙ e) ∙ front_is es (scale_words z hv.words);
       }
 
-pub stretched_kernel : (p n z : ℕ) (t m v : List ℕ) → Prime p → Holds p n t → Frobenius p n (take n t) m → Holds p n v → Stretched p n z m (take n v) → Kernel p n (take n t) z false v
+pub stretched_kernel : (p n z : ℕ) (t m v : List ℕ) → Prime p → Holds p n t → Frobenius p n (take n t) m → Holds p n v → Stretched p n z m (take n v) → Kernel p n (take n t) z v
 stretched_kernel p n z t m v prime ht frobenius hv h =
-    record {
-      holds = hv;
-      if_regular = λ e. absurd (false≢true e);
-      not_zero = λ _. h.not_zero;
-      power_is = λ _. sym (frobenius_applies prime ht.words frobenius hv.words) ∙ h.product_is;
-    }
+    record { holds = hv; not_zero = h.not_zero; power_is = sym (frobenius_applies prime ht.words frobenius hv.words) ∙ h.product_is }

@@ -1,16 +1,32 @@
 -- `from_eigenvectors`: a modulus without an eigenvector is refused, T1 before T2; otherwise c exists.
 use Rattle.std.proofs.Common.{rules}
-use Rattle.finder.proofs.construct.FromEigenvectors.{zeta_has_order, refused_first, refused_second}
+use Rattle.std.proofs.lemmas.Result.{err_from_is_err_and}
+use Rattle.finder.proofs.construct.FromEigenvectors.{zeta_has_order}
+use Rattle.finder.proofs.construct.Numbers.{first_size, six, seven}
+use Rattle.finder.proofs.construct.OkOr.{some_of, none_of}
 use Rattle.finder.proofs.construct.from_eigenvectors.Goals as goal
 
-pub eigenvector-first-requires-clause-z_lt_p : goal.eigenvector-first-requires-clause-z_lt_p
-eigenvector-first-requires-clause-z_lt_p c = (search rules, search zeta_has_order)
+pub eigenvector-requires-clause-order : goal.eigenvector-requires-clause-order
+eigenvector-requires-clause-order c = (search rules, search zeta_has_order)
 
-pub returns-then-not-first-clause-number : goal.returns-then-not-first-clause-number
-returns-then-not-first-clause-number c = search refused_first
+pub returns-in_err-first-clause-number : goal.returns-in_err-first-clause-number
+returns-in_err-first-clause-number c =
+    let p = err_from_is_err_and c.from_residual.result c.from_residual.ensures.1 in
+    let none = none_of _ _ _ _ _ c.in_err-first.ensures.value c.eigenvector.ensures.eigenvector in
+    rw (p.1, p.2, none.1) (six _ _ _ _ (first_size _ _ c.requires.admissible) none.0)
 
-pub eigenvector-second-requires-clause-z_lt_p : goal.eigenvector-second-requires-clause-z_lt_p
-eigenvector-second-requires-clause-z_lt_p c = (search rules, search zeta_has_order)
+pub eigenvector-requires-2-clause-order : goal.eigenvector-requires-2-clause-order
+eigenvector-requires-2-clause-order c = (search rules, search zeta_has_order)
 
-pub returns-then-not-second-clause-number : goal.returns-then-not-second-clause-number
-returns-then-not-second-clause-number c = search refused_second
+pub returns-in_err-second-clause-number : goal.returns-in_err-second-clause-number
+returns-in_err-second-clause-number c =
+    let p = err_from_is_err_and c.from_residual-in_err-second.result c.from_residual-in_err-second.ensures.1 in
+    let first = some_of _ _ _ _ _ c.in_ok-first.ensures.value c.eigenvector.ensures.eigenvector in
+    let none = none_of _ _ _ _ _ c.in_err-second.ensures.value c.eigenvector-2.ensures.eigenvector in
+    rw (p.1, p.2, none.1) (seven _ _ _ _ (first_size _ _ c.requires.admissible) first.irreducible none.0)
+
+pub from_scalings-requires-clause-first_found : goal.from_scalings-requires-clause-first_found
+from_scalings-requires-clause-first_found c = some_of _ _ _ _ _ c.in_ok-first.ensures.value c.eigenvector.ensures.eigenvector
+
+pub from_scalings-requires-clause-second_found : goal.from_scalings-requires-clause-second_found
+from_scalings-requires-clause-second_found c = some_of _ _ _ _ _ c.in_ok-second.ensures.value c.eigenvector-2.ensures.eigenvector

@@ -6,14 +6,14 @@ use Rattle.finder.proofs.construct.from_scalings.Goals as goal
 pub radicand-a-requires-clause-z_lt_p : goal.radicand-a-requires-clause-z_lt_p
 radicand-a-requires-clause-z_lt_p c = (search rules, search zeta_has_order)
 
-pub scaling-alpha1-requires-clause-z_lt_p : goal.scaling-alpha1-requires-clause-z_lt_p
-scaling-alpha1-requires-clause-z_lt_p c = (search rules, search zeta_has_order)
+pub scaling-alpha1-requires-clause-order : goal.scaling-alpha1-requires-clause-order
+scaling-alpha1-requires-clause-order c = (search rules, search zeta_has_order)
 
 pub scaling-alpha1-requires-clause-radicand : goal.scaling-alpha1-requires-clause-radicand
 scaling-alpha1-requires-clause-radicand c = (search (rules, found_radicand), search found_radicand)
 
-pub scaling-alpha2-requires-clause-z_lt_p : goal.scaling-alpha2-requires-clause-z_lt_p
-scaling-alpha2-requires-clause-z_lt_p c = (search rules, search zeta_has_order)
+pub scaling-alpha2-requires-clause-order : goal.scaling-alpha2-requires-clause-order
+scaling-alpha2-requires-clause-order c = (search rules, search zeta_has_order)
 
 pub scaling-alpha2-requires-clause-radicand : goal.scaling-alpha2-requires-clause-radicand
 scaling-alpha2-requires-clause-radicand c = (search (rules, found_radicand), search found_radicand)

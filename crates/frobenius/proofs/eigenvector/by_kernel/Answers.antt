@@ -1,9 +1,9 @@
 -- `by_kernel`: the kernel has only 0, or a vector that decides.
-use Rattle.frobenius.proofs.KernelAnswer.{answer_none, answer_found}
+use Rattle.frobenius.proofs.KernelAnswer.{none_trivial, decided}
 use Rattle.frobenius.proofs.eigenvector.by_kernel.Goals as goal
 
-pub returns-in-Unique-clause-eigenvector_found : goal.returns-in-Unique-clause-eigenvector_found
-returns-in-Unique-clause-eigenvector_found c = search (answer_none, c.in-Unique.ensures.kernel)
+pub returns-in_err-v-clause-eigenvector : goal.returns-in_err-v-clause-eigenvector
+returns-in_err-v-clause-eigenvector c = rw c.from_residual.ensures (search (none_trivial, c.in_err-v.ensures.kernel))
 
-pub returns-in-NullVector-clause-eigenvector_found : goal.returns-in-NullVector-clause-eigenvector_found
-returns-in-NullVector-clause-eigenvector_found c = search (answer_found, c.in-NullVector.ensures.kernel)
+pub returns-clause-eigenvector : goal.returns-clause-eigenvector
+returns-clause-eigenvector c = search (decided, c.in_ok-v.ensures.kernel)

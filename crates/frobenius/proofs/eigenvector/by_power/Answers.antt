@@ -2,5 +2,5 @@
 use Rattle.frobenius.proofs.KernelAnswer.{root_found}
 use Rattle.frobenius.proofs.eigenvector.by_power.Goals as goal
 
-pub returns : goal.returns
-returns c = search root_found
+pub returns-then-is_radicand : goal.returns-then-is_radicand
+returns-then-is_radicand c = search (root_found, c.in_ok-root.ensures, c.is_radicand.ensures c.if-is_radicand.true)

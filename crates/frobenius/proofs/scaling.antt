@@ -1,2 +1,0 @@
--- The law on which the proof of `scaling` rests.
-mod Scaled
