@@ -1,9 +1,10 @@
 -- Conversion by what is held, the open table and k records: the number by the tests of the code, and what the number 0 says.
 --   Accepted x k table out   what is held is paired, no table is open, 9, 10 and 4 do not apply, and the ledger has room: exactly then the number is 0
+use Rattle.std.specs.Prelude.{Ok}
 use mathlib.Core.Path.{◌≡◌, refl, sym, ap, ◌∙◌}
 use mathlib.Core.Bool.{true, false}
 use mathlib.Core.List.{List, [], ◌∷◌}
-use Prim.Native.Nat.{ℕ, zero, suc, ◌/◌, ◌≤◌, ◌<◌}
+use Prim.Native.Nat.{ℕ, ◌/◌, ◌≤◌, ◌<◌}
 use native.Mathlib.Nat as Nat
 use native.Mathlib.Omega.{arith}
 use lib.ListN.{length}
@@ -23,11 +24,8 @@ use Rattle.work.specs.Number.{or_else, state_number, full_number}
 use Rattle.work.specs.Work.{is_paired, is_open}
 use Rattle.work.specs.declared.Work.{Work}
 use Rattle.work.proofs.Numbers.{or_first, or_next, or_zero, state_zero, state_whole, full_zero, full_whole}
-use Rattle.conversion.specs.Conversion.{where_zero, convert_number, convert}
-
-none_refused : (j r : ℕ) → (j ≡ 0 → ⊥) → 0 ≡ where_zero j r
-none_refused zero r h = absurd (h refl)
-none_refused (suc j) r h = refl
+use Rattle.work.specs.Step.{Records}
+use Rattle.conversion.specs.Conversion.{convert_number, convert}
 
 -- a value that counts as paired
 module _ (h : Held) (e : is_paired (view h) ≡ true) where
@@ -37,11 +35,11 @@ module _ (h : Held) (e : is_paired (view h) ≡ true) where
   by_view (loaded p n t1 t2) f = cc
   by_view (paired p n t1 t2 s r) f = refl
 
-  pub is_paired_lem : Paired ≡ view_state (view h)
-  is_paired_lem = by_view (view h) e
+  pub state_paired : Paired ≡ view_state (view h)
+  state_paired = by_view (view h) e
 
   pub lists_valid : valid h.p h.n (t1_of h ∷ t2_of h ∷ s_of h ∷ r_of h ∷ []) ≡ true
-  lists_valid = paired_valid h Paired is_paired_lem refl
+  lists_valid = paired_valid h Paired state_paired refl
 
   pub degree_positive : 1 ≤ h.n
   degree_positive = (valid_size h.p h.n _ lists_valid).2
@@ -100,10 +98,6 @@ module _ (x : Work) (k : ℕ) (table out : List ℕ) where
 
 -- the answer
 module _ (d : Direction) (x : Work) (k : ℕ) (table out : List ℕ) (j : ℕ) (e : j ≡ convert_number x k table out) where
-  pub convert_refuses : (j ≡ 0 → ⊥) → record { number = j; work = x; entry = record { direction = d; residues = 0 } } ≡ convert d x k table out
-  unfolding convert
-  convert_refuses h = rw (← e, ← none_refused j (length table / x.held.n) h)
-
   module _ (h : j ≡ 0) where
     pub number_paired : is_paired (view x.held) ≡ true
     number_paired = (accepted x k table out (sym e ∙ h)).paired
@@ -117,6 +111,6 @@ module _ (d : Direction) (x : Work) (k : ℕ) (table out : List ℕ) (j : ℕ) (
     pub residues_fit : Fits w32 (length table / x.held.n)
     residues_fit = record { fits = omega (arith, residues_few x.held number_paired table out table_given) }
 
-    pub convert_converts : record { number = 0; work = x; entry = record { direction = d; residues = length table / x.held.n } } ≡ convert d x k table out
+    pub converted : Records (Ok (record { work = x; entry = record { direction = d; residues = length table / x.held.n } })) (convert d x k table out)
     unfolding convert
-    convert_converts = rw (sym e ∙ h)
+    converted = let z : convert_number x k table out ≡ 0 = sym e ∙ h in (z, refl, rw z)

@@ -14,7 +14,7 @@ use Rattle.ledger.specs.declared.Direction.{Direction}
 use Rattle.ledger.specs.declared.Direction.TheVariants.{Forward, Back}
 use Rattle.work.specs.Number.{or_else, state_number, full_number}
 use Rattle.work.specs.declared.Work.{Work}
-use Rattle.work.specs.declared.RecordStep.{RecordStep}
+use Rattle.work.specs.Step.{RecordStep}
 
 abbrev pub where_zero : ℕ → ℕ → ℕ
 where_zero zero k = k

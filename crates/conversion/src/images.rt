@@ -20,8 +20,8 @@ fn convert_words(
     table: &[Word],
     out: &mut [Word],
 )
-    requires s_value { valid p n (take n t ∷ take n s ∷ []) ≡ true }
-    requires out_value { table_number p n table.now out.old ≡ 0 }
+    requires valid { valid p n (take n t ∷ take n s ∷ []) ≡ true }
+    requires convertible { table_number p n table.now out.old ≡ 0 }
     ensures { out.new ≡ converted p n (take n t) (take n s) table.now }
 {
     convert_table(p, n, front(&t, n), front(&s, n), table, out);
@@ -29,16 +29,12 @@ fn convert_words(
 
 // By what is held, where it is paired and 9, 10 and 4 do not apply.
 pub fn images(direction: Direction, held: Held, table: &[Word], out: &mut [Word])
-    requires held_value { is_paired (view held) ≡ true }
-    requires out_value { table_number held.p held.n table.now out.old ≡ 0 }
+    requires paired { is_paired (view held) ≡ true }
+    requires convertible { table_number held.p held.n table.now out.old ≡ 0 }
     ensures { out.new ≡ images_in direction held table.now }
 {
-    let t1 = held.t1;
-    let t2 = held.t2;
-    let s = held.s;
-    let r = held.r;
     match direction {
-        Direction::Forward => convert_words(held.p, held.n, t2, s, table, out),
-        Direction::Back => convert_words(held.p, held.n, t1, r, table, out),
+        Direction::Forward => convert_words(held.p, held.n, held.t2, held.s, table, out),
+        Direction::Back => convert_words(held.p, held.n, held.t1, held.r, table, out),
     }
 }

@@ -1,33 +1,35 @@
--- The output is written only where the number is 0.
+-- The output is written only where nothing is refused.
+use Rattle.std.proofs.Common.{refl}
+use Rattle.refusal.proofs.Refused.{refused}
 use Rattle.refusal.proofs.Written.{output_new, output_old}
-use Rattle.conversion.specs.Conversion.{convert_output}
-use Rattle.conversion.proofs.Numbers.{convert_refuses, number_paired, table_given, divisor_positive, residues_fit, convert_converts}
+use Rattle.work.proofs.Answers.{record_refused}
+use Rattle.conversion.specs.Conversion.{convert, convert_output}
+use Rattle.conversion.proofs.Numbers.{number_paired, table_given, divisor_positive, residues_fit, converted}
 use Rattle.conversion.proofs.convert.convert.Goals as goal
 
-pub returns-then-number-ne0-clause-value : goal.returns-then-number-ne0-clause-value
+pub returns-in_err-check-clause-value : goal.returns-in_err-check-clause-value
+unfolding convert
+returns-in_err-check-clause-value c = record_refused _ _ _ c.from_residual.ensures.1 c.in_err-check.ensures
+
+pub returns-in_err-check-clause-out_after : goal.returns-in_err-check-clause-out_after
 unfolding convert_output
-returns-then-number-ne0-clause-value c = search convert_refuses
+returns-in_err-check-clause-out_after c = output_old _ _ _ _ c.in_err-check.ensures (refused _)
 
-pub returns-then-number-ne0-clause-out_after : goal.returns-then-number-ne0-clause-out_after
-unfolding convert_output
-returns-then-number-ne0-clause-out_after c = search output_old
+pub images-requires-clause-paired : goal.images-requires-clause-paired
+images-requires-clause-paired c = number_paired c.args.direction _ _ _ _ 0 c.in_ok-check.ensures refl
 
-pub images-requires-clause-held_value : goal.images-requires-clause-held_value
-images-requires-clause-held_value c = search number_paired
-
-pub images-requires-clause-out_value : goal.images-requires-clause-out_value
-images-requires-clause-out_value c = search table_given
+pub images-requires-clause-convertible : goal.images-requires-clause-convertible
+images-requires-clause-convertible c = table_given c.args.direction _ _ _ _ 0 c.in_ok-check.ensures refl
 
 pub nonzero_div-residues : goal.nonzero_div-residues
-nonzero_div-residues c = search divisor_positive
+nonzero_div-residues c = divisor_positive c.args.direction _ _ _ _ 0 c.in_ok-check.ensures refl
 
 pub overflow_cast-entry : goal.overflow_cast-entry
-overflow_cast-entry c = search residues_fit
+overflow_cast-entry c = residues_fit c.args.direction _ _ _ _ 0 c.in_ok-check.ensures refl
 
 pub returns-clause-value : goal.returns-clause-value
-unfolding convert_output
-returns-clause-value c = search convert_converts
+returns-clause-value c = converted _ _ _ _ _ 0 c.in_ok-check.ensures refl
 
 pub returns-clause-out_after : goal.returns-clause-out_after
 unfolding convert_output
-returns-clause-out_after c = search output_new
+returns-clause-out_after c = output_new 0 _ _ _ _ c.in_ok-check.ensures refl c.images.ensures
