@@ -21,8 +21,7 @@ use Rattle.work.specs.Number.{or_else, state_number, full_number}
 use Rattle.work.specs.declared.Table.{Table}
 use Rattle.work.specs.declared.Table.TheVariants.{Closed, Open}
 use Rattle.work.specs.declared.Work.{Work}
-use Rattle.work.specs.declared.WorkStep.{WorkStep}
-use Rattle.work.specs.declared.RecordStep.{RecordStep}
+use Rattle.work.specs.Step.{WorkStep, RecordStep}
 use Rattle.conversion.specs.Conversion.{where_zero, images_in}
 
 abbrev pub most_residues : ℕ

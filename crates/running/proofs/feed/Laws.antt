@@ -1,8 +1,9 @@
--- Feed's number and answer, by the tests of the code.
-use mathlib.Core.Path.{◌≡◌, refl, sym, ap, ◌∙◌}
+-- Feed's answer, by the tests of the code.
+use Rattle.std.specs.Prelude.{Result, Ok}
+use mathlib.Core.Path.{◌≡◌, sym, ap, subst, ◌∙◌}
 use mathlib.Core.Bool.{true}
 use mathlib.Core.List.{List}
-use Prim.Native.Nat.{ℕ, zero, suc, ◌+◌, ◌-◌, ◌/◌, ◌≤◌, ◌<◌}
+use Prim.Native.Nat.{ℕ, ◌+◌, ◌-◌, ◌/◌, ◌≤◌, ◌<◌}
 use native.Mathlib.Omega.{arith}
 use borrow.Author.Tests.{lt-ltb, le-ltb}
 use lib.ListN.{length}
@@ -11,18 +12,18 @@ use mir.Val.{Fits}
 use Rattle.held.specs.Held.{view}
 use Rattle.held.specs.declared.Held.{Held}
 use Rattle.ledger.specs.declared.Record.{Record}
+use Rattle.refusal.specs.declared.number.Refusal.{Refusal}
 use Rattle.table.specs.Table.{table_number}
+use Rattle.work.specs.Step.{Answers}
 use Rattle.work.specs.Work.{is_paired, is_open}
 use Rattle.work.specs.declared.Table.TheVariants.{Closed, Open}
 use Rattle.work.specs.declared.Work.{Work}
-use Rattle.work.specs.declared.WorkStep.{WorkStep}
-use Rattle.conversion.specs.Conversion.{where_zero}
 use Rattle.conversion.proofs.Numbers.{degree_positive}
 use Rattle.running.specs.OverPair.{OverPair}
-use Rattle.running.specs.Running.{most_residues, part_number, fed_as, feed_as, feed, feed_output_as, feed_output}
+use Rattle.running.specs.Running.{most_residues, part_number, feed_as, feed, feed_output_as, feed_output}
 use Rattle.running.proofs.Numbers.{part_parts}
 
--- the number of a part
+-- the refusals of a part
 module _ (p n k : ℕ) (k32 : Fits w32 k) (table out : List ℕ) where
   pub part_above : most_residues - k < length table / n → 9 ≡ part_number p n k table out
   unfolding part_number
@@ -48,38 +49,22 @@ module _ (p n k : ℕ) (table out : List ℕ) (j : ℕ) (f : j ≡ part_number p
 
 -- where a table is open
 module _ (x : Work) (e : Record) (table out : List ℕ) (j : ℕ) (f : j ≡ part_number x.held.p x.held.n e.residues table out) where
-  kept : (j r k : ℕ) → (j ≡ 0 → ⊥) → k ≡ k + where_zero j r
-  kept zero r k h = absurd (h refl)
-  kept (suc j) r k h = omega arith
-
-  pub feed_refuses : (j ≡ 0 → ⊥) → x.table ≡ Open e → record { number = j; work = x } ≡ feed_as (Open e) x table out
+  pub feeds : j ≡ 0 → Answers (Ok (record {
+    held = x.held;
+    table = Open (record { direction = e.direction; residues = e.residues + length table / x.held.n });
+    waiting = x.waiting;
+  })) (feed_as (Open e) x table out)
   unfolding feed_as
-  feed_refuses h g =
-      ap (λ t. record { number = j; work = record { held = x.held; table = t; waiting = x.waiting } }) g
-      ∙ ap (λ k. record { number = j; work = record { held = x.held; table = Open (record { direction = e.direction; residues = k }); waiting = x.waiting } })
-      (kept j (length table / x.held.n) e.residues h)
-      ∙ ap (λ i. record { number = i; work = record { held = x.held; table = fed_as (Open e) (where_zero i (length table / x.held.n)); waiting = x.waiting } }) f
-
-  pub feed_feeds : j ≡ 0 → record {
-    number = 0;
-    work = record {
-      held = x.held;
-      table = Open (record { direction = e.direction; residues = e.residues + length table / x.held.n });
-      waiting = x.waiting;
-    };
-  }
-      ≡ feed_as (Open e) x table out
-  unfolding feed_as
-  feed_feeds h = rw (sym f ∙ h)
+  feeds h = let z : part_number x.held.p x.held.n e.residues table out ≡ 0 = sym f ∙ h in (z, rw z)
 
 pub held_positive : (h : Held) → is_paired (view h) ≡ true → 0 < h.n
 held_positive h e = omega (arith, degree_positive h e)
 
 -- by whether a table is open
 module _ (x : Work) (table out : List ℕ) where
-  pub feed_closed : x.table ≡ Closed → record { number = 26; work = x } ≡ feed x table out
+  pub feed_closed : x.table ≡ Closed → (feed x table out).number ≡ 26
   unfolding feed feed_as
-  feed_closed e = ap (λ t. record { number = 26; work = record { held = x.held; table = t; waiting = x.waiting } }) e ∙ ap (λ t. feed_as t x table out) (sym e)
+  feed_closed e = rw e
 
   pub closed_output : x.table ≡ Closed → out ≡ feed_output x table out
   unfolding feed_output feed_output_as
@@ -89,9 +74,9 @@ module _ (x : Work) (table out : List ℕ) where
     pub over_pair : OverPair x → is_paired (view x.held) ≡ true
     over_pair o = o.has_pair (ap is_open f)
 
-    pub feed_open : (y : WorkStep) → y ≡ feed_as (Open e) x table out → y ≡ feed x table out
+    pub feed_open : (y : Result Work Refusal) → Answers y (feed_as (Open e) x table out) → Answers y (feed x table out)
     unfolding feed
-    feed_open y g = g ∙ ap (λ t. feed_as t x table out) (sym f)
+    feed_open y g = subst (λ t. Answers y (feed_as t x table out)) (sym f) g
 
     pub open_output : (after : List ℕ) → after ≡ feed_output_as (Open e) x.held table out → after ≡ feed_output x table out
     unfolding feed_output
