@@ -8,9 +8,9 @@ use residue::ring::frobenius_of_x;
 
 // The powers of X^p modulo T.
 pub fn frobenius(p: u64, n: usize, t: &[u64; 16], m: &mut [u64; 256])
-    requires le_p { (2 ≤ p) × (p ≤ 2 ^ 20) × (1 ≤ n) × (n ≤ 16) }
+    requires sizes { (2 ≤ p) × (p ≤ 2 ^ 20) × (1 ≤ n) × (n ≤ 16) }
     requires holds { Holds p n t.now }
-    requires m_len { length m.old ≡ 256 }
+    requires size { length m.old ≡ 256 }
     ensures { Frobenius p n (take n t.now) m.new }
 {
     let x = frobenius_of_x(p, n, t);

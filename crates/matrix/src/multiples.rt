@@ -13,15 +13,13 @@ use residue::ring::times_x;
 pub fn multiples(d: Barrett, n: usize, t: &[u64; 16], s: &[u64; 16], m: &mut [u64; 256])
     requires reduces { Reduces d × (1 ≤ n) × (n ≤ 16) }
     requires holds { Holds d.p n t.now × Holds d.p n s.now }
-    requires m_value { m.old ≡ replicate 256 0 }
+    requires zeros { m.old ≡ replicate 256 0 }
     ensures { Multiples d.p n (take n t.now) (take n s.now) m.new }
 {
     let mut w = *s;
     place(n, 0, &w, m);
-    let mut k = 1;
-    while k < n {
+    for k in 1..n {
         times_x(d, n, t, &mut w);
         place(n, k, &w, m);
-        k += 1;
     }
 }

@@ -1,5 +1,5 @@
 // The matrix of u ↦ u(S): its columns are the powers of S, so that u(S) is its product with u. One matrix serves any number of substitutions.
-// It is a flat array of 16 rows of 16 words, which the caller lends.
+// It is one flat array of 256 words, 16 rows of 16 words, as document 01 has it; the caller lends it.
 ghost use Rattle.std.specs.Prelude.{◌≡◌, ◌^◌, ◌≤◌, ◌<◌, length, take};
 ghost use Rattle.array.specs.Array.{padded, Holds};
 ghost use Rattle.modular.specs.Barrett.{Reduces};
@@ -15,10 +15,8 @@ pub fn place(n: usize, j: usize, u: &[u64; 16], m: &mut [u64; 256])
     requires { (n ≤ 16) × (j < 16) × (length u.now ≡ 16) × (length m.old ≡ 256) }
     ensures { Placed n j u.now m.old m.new }
 {
-    let mut i = 0;
-    while i < n {
+    for i in 0..n {
         m[16 * i + j] = u[i];
-        i += 1;
     }
 }
 
@@ -26,17 +24,15 @@ pub fn place(n: usize, j: usize, u: &[u64; 16], m: &mut [u64; 256])
 fn few_powers(d: Barrett, n: usize, t: &[u64; 16], s: &[u64; 16], m: &mut [u64; 256])
     requires reduces { Reduces d × (2 ≤ n) × (n ≤ 16) }
     requires holds { Holds d.p n t.now × Holds d.p n s.now }
-    requires powers { Powers d.p 1 (take n t.now) (take n s.now) m.old }
-    ensures powers_2 { Powers d.p n (take n t.now) (take n s.now) m.new }
+    requires first { Powers d.p 1 (take n t.now) (take n s.now) m.old }
+    ensures powers { Powers d.p n (take n t.now) (take n s.now) m.new }
     ensures kept { Kept n m.old m.new }
 {
     let mut u = *s;
     place(n, 1, &u, m);
-    let mut j = 2;
-    while j < n {
+    for j in 2..n {
         u = multiply(d, n, t, s, &u);
         place(n, j, &u, m);
-        j += 1;
     }
 }
 
@@ -44,19 +40,17 @@ fn few_powers(d: Barrett, n: usize, t: &[u64; 16], s: &[u64; 16], m: &mut [u64; 
 fn many_powers(d: Barrett, n: usize, t: &[u64; 16], s: &[u64; 16], m: &mut [u64; 256])
     requires reduces { Reduces d × (2 ≤ n) × (n ≤ 16) }
     requires holds { Holds d.p n t.now × Holds d.p n s.now }
-    requires powers { Powers d.p 1 (take n t.now) (take n s.now) m.old }
-    ensures powers_2 { Powers d.p n (take n t.now) (take n s.now) m.new }
+    requires first { Powers d.p 1 (take n t.now) (take n s.now) m.old }
+    ensures powers { Powers d.p n (take n t.now) (take n s.now) m.new }
     ensures kept { Kept n m.old m.new }
 {
     let mut by_s = [0; 256];
     multiples(d, n, t, s, &mut by_s);
     let mut u = *s;
     place(n, 1, &u, m);
-    let mut j = 2;
-    while j < n {
+    for j in 2..n {
         u = products(d, n, 16, &by_s, &u);
         place(n, j, &u, m);
-        j += 1;
     }
 }
 
@@ -64,8 +58,8 @@ fn many_powers(d: Barrett, n: usize, t: &[u64; 16], s: &[u64; 16], m: &mut [u64;
 fn higher_powers(d: Barrett, n: usize, t: &[u64; 16], s: &[u64; 16], m: &mut [u64; 256])
     requires reduces { Reduces d × (2 ≤ n) × (n ≤ 16) }
     requires holds { Holds d.p n t.now × Holds d.p n s.now }
-    requires powers { Powers d.p 1 (take n t.now) (take n s.now) m.old }
-    ensures powers_2 { Powers d.p n (take n t.now) (take n s.now) m.new }
+    requires first { Powers d.p 1 (take n t.now) (take n s.now) m.old }
+    ensures powers { Powers d.p n (take n t.now) (take n s.now) m.new }
     ensures kept { Kept n m.old m.new }
 {
     if n < 7 {
@@ -77,9 +71,9 @@ fn higher_powers(d: Barrett, n: usize, t: &[u64; 16], s: &[u64; 16], m: &mut [u6
 
 // The powers 1, S, …, S^(n−1) modulo T. The further columns stay as they are.
 pub fn powers(p: u64, n: usize, t: &[u64; 16], s: &[u64; 16], m: &mut [u64; 256])
-    requires le_p { (2 ≤ p) × (p ≤ 2 ^ 20) × (1 ≤ n) × (n ≤ 16) }
+    requires sizes { (2 ≤ p) × (p ≤ 2 ^ 20) × (1 ≤ n) × (n ≤ 16) }
     requires holds { Holds p n t.now × Holds p n s.now }
-    requires m_len { length m.old ≡ 256 }
+    requires size { length m.old ≡ 256 }
     ensures powers { Powers p n (take n t.now) (take n s.now) m.new }
     ensures kept { Kept n m.old m.new }
 {
@@ -97,10 +91,8 @@ pub fn column(n: usize, m: &[u64; 256], j: usize) -> [u64; 16]
     ensures { result ≡ padded (column_of n m.now j) }
 {
     let mut w = [0; 16];
-    let mut i = 0;
-    while i < n {
+    for i in 0..n {
         w[i] = m[16 * i + j];
-        i += 1;
     }
     w
 }

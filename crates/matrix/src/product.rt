@@ -21,10 +21,8 @@ pub fn dot(d: Barrett, n: usize, m: &[u64; 256], u: &[u64; 16], i: usize) -> u64
     ensures { result ≡ row_product m.now i 0 (take n u.now) % d.p }
 {
     let mut sum = 0;
-    let mut j = 0;
-    while j < 16 {
+    for j in 0..16 {
         sum += term(m[16 * i + j], u[j]);
-        j += 1;
     }
     d.reduce(sum)
 }
@@ -36,17 +34,15 @@ pub fn products(d: Barrett, n: usize, k: usize, m: &[u64; 256], u: &[u64; 16]) -
     ensures { result ≡ padded (matrix_product d.p n m.now (take k u.now)) }
 {
     let mut w = [0; 16];
-    let mut i = 0;
-    while i < n {
+    for i in 0..n {
         w[i] = dot(d, k, m, u, i);
-        i += 1;
     }
     w
 }
 
 // The product of a matrix with u, modulo p.
 pub fn apply(p: u64, n: usize, m: &[u64; 256], u: &[u64; 16]) -> [u64; 16]
-    requires le_p { (2 ≤ p) × (p ≤ 2 ^ 20) × (n ≤ 16) }
+    requires sizes { (2 ≤ p) × (p ≤ 2 ^ 20) × (n ≤ 16) }
     requires square { Square p n m.now × Holds p n u.now }
     ensures { result ≡ padded (matrix_product p n m.now (take n u.now)) }
 {

@@ -17,10 +17,8 @@ fn dot_list(d: Barrett, n: usize, m: &[u64; 256], u: &[Word], i: usize) -> u64
     ensures { result ≡ row_product m.now i 0 u.now % d.p }
 {
     let mut sum = 0;
-    let mut j = 0;
-    while j < n {
+    for j in 0..n {
         sum += times(m[16 * i + j], u[j] as u64);
-        j += 1;
     }
     d.reduce(sum)
 }
@@ -31,10 +29,8 @@ fn multiply_few(d: Barrett, n: usize, m: &[u64; 256], u: &[Word], out: &mut [Wor
     requires square { Square d.p n m.now × Words d.p n u.now }
     ensures { out.new ≡ matrix_product d.p n m.now u.now }
 {
-    let mut i = 0;
-    while i < n {
-        out[i] = dot_list(d, n, m, u, i) as Word;
-        i += 1;
+    for (i, word) in out.iter_mut().enumerate() {
+        *word = dot_list(d, n, m, u, i) as Word;
     }
 }
 
@@ -56,10 +52,8 @@ fn multiply_many(d: Barrett, n: usize, m: &[u64; 256], u: &[Word], out: &mut [Wo
     ensures { out.new ≡ matrix_product d.p n m.now (take n u.now) }
 {
     let loaded = load_words(n, u);
-    let mut i = 0;
-    while i < n {
-        out[i] = dot(d, n, m, &loaded, i) as Word;
-        i += 1;
+    for (i, word) in out.iter_mut().enumerate() {
+        *word = dot(d, n, m, &loaded, i) as Word;
     }
 }
 

@@ -27,12 +27,12 @@ word_fits d r x h e =
     omega (arith, h.small)
 
 module _ (p n i : ℕ) (m u out₀ out : List ℕ) (e : out ≡ painted out₀ (product_word p m u) i) where
-  pub list_done : length out₀ ≡ n → i ≤ n → n ≤ i → out ≡ matrix_product p n m u
+  pub list_done : length out₀ ≡ n → i ≤ length out₀ → length out₀ ≤ i → out ≡ matrix_product p n m u
   unfolding matrix_product product_word
-  list_done size l l' = painted-range (product_word p m u) n i out₀ out size l l' e
+  list_done size l l' = painted-range (product_word p m u) n i out₀ out size (omega arith) (omega arith) e
 
 -- of an array that begins with the words of v
-pub loaded_done : (p n i : ℕ) (m u v out₀ out : List ℕ) → Begins n v u → length out₀ ≡ n → i ≤ n → n ≤ i
+pub loaded_done : (p n i : ℕ) (m u v out₀ out : List ℕ) → Begins n v u → length out₀ ≡ n → i ≤ length out₀ → length out₀ ≤ i
     → out ≡ painted out₀ (product_word p m (take n u)) i → out ≡ matrix_product p n m (take n v)
 loaded_done p n i m u v out₀ out h size l l' e = list_done p n i m (take n u) out₀ out e size l l' ∙ ap (matrix_product p n m) h.words
 

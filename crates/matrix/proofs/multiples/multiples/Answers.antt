@@ -3,10 +3,10 @@ use Rattle.matrix.proofs.multiples.MultipleColumns.{multiple_holds, multiple_fir
 use Rattle.matrix.proofs.multiples.multiples.Goals as goal
 
 pub loop-k-init : goal.loop-k-init
-loop-k-init c = (search rules, search rules, search multiple_first, search multiples_one)
+loop-k-init c = (search multiple_first, search multiples_one)
 
 pub times_x-requires-clause-holds : goal.times_x-requires-clause-holds
 times_x-requires-clause-holds c = (search rules, search multiple_holds)
 
 pub loop-k-preserved : goal.loop-k-preserved
-loop-k-preserved c = (search rules, search rules, search multiple_turn, search multiples_turn)
+loop-k-preserved c = (search multiple_turn, search multiples_turn)

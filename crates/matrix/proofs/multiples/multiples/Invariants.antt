@@ -1,13 +1,10 @@
 -- Before turn k the matrix has its first k columns, and w is the last of them.
 use mathlib.Core.Path.{◌≡◌}
-use Prim.Native.Nat.{◌-◌, ◌≤◌}
+use Prim.Native.Nat.{◌-◌}
 use lib.ListN.{take}
 use Rattle.array.specs.Array.{padded}
 use Rattle.matrix.specs.Matrix.{multiple, Multiples}
 use Rattle.matrix.proofs.multiples.multiples.Given as goal
 
 abbrev pub invariant-loop-k : goal.invariant-loop-k
-invariant-loop-k l = (1 ≤ l.k) × (l.k ≤ l.n) × (l.w ≡ padded (multiple l.d.p (take l.n l.t) (take l.n l.s) (l.k - 1))) × Multiples l.d.p l.k (take l.n l.t) (take l.n l.s) l.m
-
-abbrev pub decreases-loop-k : goal.decreases-loop-k
-decreases-loop-k l = l.n - l.k
+invariant-loop-k l = (l.w ≡ padded (multiple l.d.p (take l.n l.t) (take l.n l.s) (l.k - 1))) × Multiples l.d.p l.k (take l.n l.t) (take l.n l.s) l.m

@@ -4,10 +4,10 @@ use Rattle.matrix.proofs.powers.Columns.{last_first, powers_two, last_turn, powe
 use Rattle.matrix.proofs.powers.few_powers.Goals as goal
 
 pub loop-j-init : goal.loop-j-init
-loop-j-init c = (search rules, search rules, search last_first, search powers_two, search kept_none)
+loop-j-init c = (search last_first, search powers_two, search kept_none)
 
 pub multiply-u-requires-clause-holds : goal.multiply-u-requires-clause-holds
 multiply-u-requires-clause-holds c = (search rules, search rules, search power_holds)
 
 pub loop-j-preserved : goal.loop-j-preserved
-loop-j-preserved c = (search rules, search rules, search last_turn, search powers_turn, search kept_turn)
+loop-j-preserved c = (search last_turn, search powers_turn, search kept_turn)

@@ -1,6 +1,6 @@
 -- Before turn j the matrix has its first j columns, and u is the last of them.
 use mathlib.Core.Path.{◌≡◌}
-use Prim.Native.Nat.{◌-◌, ◌≤◌}
+use Prim.Native.Nat.{◌-◌}
 use lib.ListN.{take}
 use Rattle.quotient.specs.Residue.{power}
 use Rattle.array.specs.Array.{padded}
@@ -8,7 +8,4 @@ use Rattle.matrix.specs.Matrix.{Powers, Kept}
 use Rattle.matrix.proofs.powers.few_powers.Given as goal
 
 abbrev pub invariant-loop-j : goal.invariant-loop-j
-invariant-loop-j l = (2 ≤ l.j) × (l.j ≤ l.n) × (l.u ≡ padded (power l.d.p (take l.n l.t) (take l.n l.s) (l.j - 1))) × Powers l.d.p l.j (take l.n l.t) (take l.n l.s) l.m × Kept l.n l.initial.m l.m
-
-abbrev pub decreases-loop-j : goal.decreases-loop-j
-decreases-loop-j l = l.n - l.j
+invariant-loop-j l = (l.u ≡ padded (power l.d.p (take l.n l.t) (take l.n l.s) (l.j - 1))) × Powers l.d.p l.j (take l.n l.t) (take l.n l.s) l.m × Kept l.n l.initial.m l.m

@@ -3,10 +3,10 @@ use Rattle.matrix.proofs.powers.Columns.{last_first, powers_two, last_whole, las
 use Rattle.matrix.proofs.powers.many_powers.Goals as goal
 
 pub loop-j-init : goal.loop-j-init
-loop-j-init c = (search rules, search rules, search last_first, search powers_two, search kept_none)
+loop-j-init c = (search last_first, search powers_two, search kept_none)
 
 pub products-u-requires-clause-square : goal.products-u-requires-clause-square
 products-u-requires-clause-square c = (search rules, search last_whole)
 
 pub loop-j-preserved : goal.loop-j-preserved
-loop-j-preserved c = (search rules, search rules, search (last_turn, last_product), search (powers_turn, last_product), search kept_turn)
+loop-j-preserved c = (search (last_turn, last_product), search (powers_turn, last_product), search kept_turn)

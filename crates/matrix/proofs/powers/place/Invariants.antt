@@ -1,10 +1,6 @@
 -- Before turn i the first i words are in their places.
-use Prim.Native.Nat.{◌-◌, ◌≤◌}
 use Rattle.matrix.specs.Matrix.{Placed}
 use Rattle.matrix.proofs.powers.place.Given as goal
 
 abbrev pub invariant-loop-i : goal.invariant-loop-i
-invariant-loop-i l = (l.i ≤ l.n) × Placed l.i l.j l.u l.initial.m l.m
-
-abbrev pub decreases-loop-i : goal.decreases-loop-i
-decreases-loop-i l = l.n - l.i
+invariant-loop-i l = Placed l.i l.j l.u l.initial.m l.m

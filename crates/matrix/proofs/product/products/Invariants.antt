@@ -1,13 +1,9 @@
 -- Before turn i the first i words of the product are written.
 use mathlib.Core.Path.{◌≡◌}
-use Prim.Native.Nat.{◌-◌, ◌≤◌}
 use lib.ListN.{take}
 use Rattle.array.proofs.Painted.{painted}
 use Rattle.matrix.proofs.product.ProductLoop.{product_word}
 use Rattle.matrix.proofs.product.products.Given as goal
 
 abbrev pub invariant-loop-i : goal.invariant-loop-i
-invariant-loop-i l = (l.i ≤ l.n) × (l.w ≡ painted l.initial.w (product_word l.d.p l.m (take l.k l.u)) l.i)
-
-abbrev pub decreases-loop-i : goal.decreases-loop-i
-decreases-loop-i l = l.n - l.i
+invariant-loop-i l = l.w ≡ painted l.initial.w (product_word l.d.p l.m (take l.k l.u)) l.i

@@ -1,13 +1,8 @@
 -- Before turn i the first i words of the product are written.
 use mathlib.Core.Path.{◌≡◌}
-use Prim.Native.Nat.{◌-◌, ◌≤◌}
-use lib.ListN.{length}
 use Rattle.array.proofs.Painted.{painted}
 use Rattle.matrix.proofs.product.ProductLoop.{product_word}
 use Rattle.matrix.proofs.words.multiply_few.Given as goal
 
 abbrev pub invariant-loop-i : goal.invariant-loop-i
-invariant-loop-i l = (l.i ≤ l.n) × (length l.out ≡ l.n) × (l.out ≡ painted l.initial.out (product_word l.d.p l.m l.u) l.i)
-
-abbrev pub decreases-loop-i : goal.decreases-loop-i
-decreases-loop-i l = l.n - l.i
+invariant-loop-i l = l.out ≡ painted l.initial.out (product_word l.d.p l.m l.u) l.i
