@@ -2,6 +2,9 @@
 use Rattle.std.proofs.Common.{◌≡◌, ℕ, ◌+◌, ◌<◌, ◌≤◌, List, length, get_or, set, sym, ap, ◌∙◌, ⊎_elim, eq-or-lt_of_le, arith, length-set, get_or-set_other, get_or-set_same, ext_get_or}
 use Rattle.differences.specs.Clauses.{Begun}
 
+pub begun_none : (xs w : List ℕ) → length w ≡ length xs → Begun 0 xs w
+begun_none xs w size = record { size = size; words = λ i l h. absurd (omega arith) }
+
 pub begun_turn : (k r : ℕ) (xs w : List ℕ) → Begun k xs w → k < length xs → r ≡ get_or xs k 0 → Begun (k + 1) xs (set w k r)
 begun_turn k r xs w begun inside e =
     record {

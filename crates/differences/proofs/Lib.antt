@@ -2,6 +2,6 @@
 mod Cancel
 pub mod Words
 mod Back
-mod Begun
+pub mod Begun
 pub mod Given
 pub mod Theorem

@@ -1,69 +1,43 @@
 // The columns of a table: column j has the words j, j + n, j + 2·n, …. A word is restored as the sum of its column up to it.
 ghost use Rattle.std.specs.Prelude.{◌≡◌, ◌+◌, ◌≤◌, length};
-ghost use Rattle.restoring.specs.Clauses.{Whole, Columns, width};
+ghost use Rattle.std.proofs.lemmas.List.Edits.{sets};
+ghost use Rattle.restoring.specs.Clauses.{Whole, Columns, added, width};
 ghost use Rattle.differences.specs.Differences.{restored};
 
-use crate::eight::{Eight, add_eight, store_eight};
-use crate::four::{Four, add_four, store_four};
 use array::Word;
 use differences::wrapped::plus;
 
-// Column j.
-fn restore_column(n: usize, j: usize, table: &[Word], out: &mut [Word])
-    requires whole { Whole n table.now out.old }
-    requires j_bound { j + 1 ≤ n }
-    ensures { Columns n j 1 (length table.now) (restored n table.now) out.old out.new }
+// W sums of columns that stand side by side, each with its word of the table from word k on: a processor adds them at once.
+fn add_row<const W: usize>(sums: &mut [Word; W], k: usize, table: &[Word])
+    requires { k + W ≤ length table.now }
+    ensures { sums.new ≡ added k table.now sums.old }
 {
-    let mut sum = 0;
-    let mut k = j;
-    while k < table.len() {
-        sum = plus(sum, table[k]);
-        out[k] = sum;
-        k += n;
+    for c in 0..W {
+        sums[c] = plus(sums[c], table[k + c]);
     }
 }
 
-// Columns j to j + 3.
-fn restore_four(n: usize, j: usize, table: &[Word], out: &mut [Word])
-    requires whole { Whole n table.now out.old }
-    requires j_bound { j + 4 ≤ n }
-    ensures { Columns n j 4 (length table.now) (restored n table.now) out.old out.new }
+// The sums into a list, from word k on. Not by `copy_from_slice`: it tests on each row whether the two lists overlap, which takes longer than the sums.
+fn store_row<const W: usize>(sums: &[Word; W], k: usize, out: &mut [Word])
+    requires { k + W ≤ length out.old }
+    ensures { out.new ≡ sets out.old k sums.now }
 {
-    let mut sums = Four {
-        a: 0,
-        b: 0,
-        c: 0,
-        d: 0,
-    };
-    let mut k = j;
-    while k < table.len() {
-        sums = add_four(sums, k, table);
-        store_four(sums, k, out);
-        k += n;
+    for c in 0..W {
+        out[k + c] = sums[c];
     }
 }
 
-// Columns j to j + 7.
-fn restore_eight(n: usize, j: usize, table: &[Word], out: &mut [Word])
+// Columns j to j + W − 1.
+fn restore_lanes<const W: usize>(n: usize, j: usize, table: &[Word], out: &mut [Word])
     requires whole { Whole n table.now out.old }
-    requires j_bound { j + 8 ≤ n }
-    ensures { Columns n j 8 (length table.now) (restored n table.now) out.old out.new }
+    requires lanes { (1 ≤ W) × (j + W ≤ n) }
+    ensures { Columns n j W (length table.now) (restored n table.now) out.old out.new }
 {
-    let zeros = Four {
-        a: 0,
-        b: 0,
-        c: 0,
-        d: 0,
-    };
-    let mut sums = Eight {
-        left: zeros,
-        right: zeros,
-    };
-    let mut k = j;
-    while k < table.len() {
-        sums = add_eight(sums, k, table);
-        store_eight(sums, k, out);
-        k += n;
+    let mut sums = [0; W];
+    for row in 0..table.len() / n {
+        let k = row * n + j;
+        add_row(&mut sums, k, table);
+        store_row(&sums, k, out);
     }
 }
 
@@ -71,27 +45,23 @@ fn restore_eight(n: usize, j: usize, table: &[Word], out: &mut [Word])
 fn width(n: usize) -> usize
     ensures { result ≡ width n }
 {
-    if n < 4 {
-        1
-    } else if n < 8 {
-        4
-    } else {
-        8
+    match n {
+        0..4 => 1,
+        4..8 => 4,
+        _ => 8,
     }
 }
 
 // The columns from column j on, as many as are restored at a time.
 fn restore_some(n: usize, j: usize, table: &[Word], out: &mut [Word])
     requires whole { Whole n table.now out.old }
-    requires n_bound { j + width n ≤ n }
+    requires inside { j + width n ≤ n }
     ensures { Columns n j (width n) (length table.now) (restored n table.now) out.old out.new }
 {
-    if n < 4 {
-        restore_column(n, j, table, out);
-    } else if n < 8 {
-        restore_four(n, j, table, out);
-    } else {
-        restore_eight(n, j, table, out);
+    match n {
+        0..4 => restore_lanes::<1>(n, j, table, out),
+        4..8 => restore_lanes::<4>(n, j, table, out),
+        _ => restore_lanes::<8>(n, j, table, out),
     }
 }
 
@@ -101,10 +71,8 @@ pub fn restore_columns(n: usize, table: &[Word], out: &mut [Word])
     ensures { out.new ≡ restored n table.now }
 {
     let w = width(n);
-    let mut j = 0;
-    while j + w < n {
+    for j in (0..n - w).step_by(w) {
         restore_some(n, j, table, out);
-        j += w;
     }
     restore_some(n, n - w, table, out);
 }

@@ -1,19 +1,22 @@
 -- The sums that run down the columns of a table: what they are before each group, and what storing them makes of the output list.
+--   Adding k c table old sums  the words of the table from word k on are added to the first c of the sums old
 --   Running n table sums k     sum c, with word k + c of the table added, is the restored word k + c
 --   Restoring n j w k table sums old out    word k is in column j, and the w columns from j on, one for each sum, are restored before word k
-use mathlib.Core.Path.{◌≡◌, refl, sym, ap, ap₂, ◌∙◌}
+use mathlib.Core.Path.{◌≡◌, refl, sym, ap, ap₂, subst, ◌∙◌}
 use mathlib.Core.List.{List, [], ◌∷◌}
 use mathlib.Core.Logic.{◌⊎◌, inl, inr, ⊎_elim}
-use Prim.Native.Nat.{ℕ, zero, suc, ◌+◌, ◌-◌, ◌%◌, ◌≤◌, ◌<◌}
+use Prim.Native.Nat.{ℕ, zero, suc, ◌+◌, ◌-◌, ◌*◌, ◌/◌, ◌%◌, ◌≤◌, ◌<◌}
 use native.Mathlib.Decide.{dec_lt}
 use native.Mathlib.Nat as Nat
 use native.Mathlib.Omega.{arith}
 use lib.ListN.{length, get_or, set, replicate, length-replicate}
-use lib.Seq.{sets, length-sets}
+use lib.Seq.{sets, length-sets, get_or-set_other}
 use Rattle.array.specs.Words.{word_bound}
 use Rattle.array.proofs.Ranges.{zeros_word}
 use Rattle.restoring.specs.Clauses.{Whole, added, Columns}
 use Rattle.differences.specs.Differences.{restored}
+use Rattle.differences.specs.Clauses.{Begun}
+use Rattle.differences.proofs.Begun.{begun_none, begun_turn, begun_done}
 use Rattle.differences.proofs.Words.{restored_start, restored_next}
 use Rattle.restoring.proofs.columns.Places.{column_on, same_column, in_row, row_fits}
 use Rattle.restoring.proofs.columns.Rows.{row_inside, row_outside}
@@ -62,6 +65,28 @@ added_word k table [] c l = absurd (omega arith)
 added_word k table (s ∷ sums) zero l = ap (λ i. (s + get_or table i 0) % word_bound) (sym (Nat.add-zero k))
 added_word k table (s ∷ sums) (suc c) l =
     added_word (suc k) table sums c (omega arith) ∙ ap (λ i. (get_or sums c 0 + get_or table i 0) % word_bound) (Nat.suc-add k c ∙ sym (Nat.add-suc k c))
+
+-- one after another, so far c of them
+pub record Adding (k c : ℕ) (table old sums : List ℕ) : Type 0 where
+  pub begun : Begun c (added k table old) sums
+  pub rest : (i : ℕ) → c ≤ i → get_or sums i 0 ≡ get_or old i 0
+
+module _ (k : ℕ) (table old : List ℕ) where
+  pub adding_none : Adding k 0 table old old
+  adding_none = record { begun = begun_none (added k table old) old (sym (added-length k table old)); rest = λ i l. refl }
+
+  pub adding_turn : (c r : ℕ) (sums : List ℕ) → Adding k c table old sums → c < length old → r ≡ (get_or sums c 0 + get_or table (k + c) 0) % word_bound
+      → Adding k (c + 1) table old (set sums c r)
+  adding_turn c r sums a l e =
+      record {
+        begun = begun_turn c r (added k table old) sums a.begun (rw added-length l) (
+            e ∙ ap (λ s. (s + get_or table (k + c) 0) % word_bound) (a.rest c (Nat.le_refl c)) ∙ sym (added_word k table old c l)
+            );
+        rest = λ i m. get_or-set_other sums c i r 0 (λ same. omega arith) ∙ a.rest i (omega arith);
+      }
+
+  pub adding_done : (c : ℕ) (sums : List ℕ) → Adding k c table old sums → length old ≤ c → sums ≡ added k table old
+  adding_done c sums a end = begun_done c (added k table old) sums a.begun (rw added-length end)
 
 -- a group: its words in these columns are added to the sums, which are stored
 module _ (n j w k : ℕ) (table sums old out : List ℕ) (r : Restoring n j w k table sums old out) (h : Whole n table old) (wide : j + w ≤ n) (here : k < length table) where
@@ -128,12 +153,28 @@ module _ (n j w k : ℕ) (table sums old out : List ℕ) (r : Restoring n j w k 
           };
         }
 
--- one column
-pub column_turn : (n j k s s' : ℕ) (table old out : List ℕ) → Restoring n j 1 k table (s ∷ []) old out → Whole n table old → j + 1 ≤ n → k < length table
-    → s' ≡ (s + get_or table k 0) % word_bound → Restoring n j 1 (k + n) table (s' ∷ []) old (set out k s')
-unfolding added
-column_turn n j k s s' table old out r h wide here e =
-    restoring_turn n j 1 k table (s ∷ []) old out r h wide here (s' ∷ []) (ap (λ x. x ∷ []) e) (set out k s') refl
+-- row by row: the group `row` begins with word row · n, and its words in these columns with the word that is j places on
+
+pub lanes_start : (n j w : ℕ) (table out : List ℕ) → Whole n table out → (1 ≤ w) × (j + w ≤ n) → Restoring n j w (0 * n + j) table (replicate w 0) out out
+lanes_start n j w table out h wide =
+    rw (Nat.zero-mul, Nat.zero-add) (restoring_none n j w table out h wide.1 wide.0 (replicate w 0) refl)
+
+module _ (n j w row : ℕ) (table sums old out : List ℕ) (r : Restoring n j w (row * n + j) table sums old out) (h : Whole n table old) (wide : (1 ≤ w) × (j + w ≤ n))
+    (here : row < length table / n) where
+  row_here : row * n + j < length table
+  row_here = omega (arith, Nat.mul-le-mul_right n here, Nat.div-mul-le_self (length table) n)
+
+  pub lanes_table : row * n + j + w ≤ length table
+  lanes_table = row_table n j w (row * n + j) table sums old out r h wide.1 row_here
+
+  pub lanes_room : row * n + j + w ≤ length out
+  lanes_room = row_room n j w (row * n + j) table sums old out r h wide.1 row_here
+
+  pub lanes_turn : (new : List ℕ) → new ≡ added (row * n + j) table sums → (out' : List ℕ) → out' ≡ sets out (row * n + j) new
+      → Restoring n j w ((row + 1) * n + j) table new old out'
+  lanes_turn new e out' f =
+      let next : row * n + j + n ≡ (row + 1) * n + j = omega arith in
+      subst (λ k. Restoring n j w k table new old out') next (restoring_turn n j w (row * n + j) table sums old out r h wide.1 row_here new e out' f)
 
 -- after the last group
 pub restoring_end : (n j w k : ℕ) (table sums old out : List ℕ) → Restoring n j w k table sums old out → length table ≤ k
@@ -144,3 +185,9 @@ restoring_end n j w k table sums old out r end =
       inside = λ i l. r.done.inside i (omega arith);
       outside = r.done.outside;
     }
+
+pub lanes_end : (n j w row : ℕ) (table sums old out : List ℕ) → Restoring n j w (row * n + j) table sums old out → Whole n table old → length table / n ≤ row
+    → Columns n j w (length table) (restored n table) old out
+lanes_end n j w row table sums old out r h end =
+    restoring_end n j w (row * n + j) table sums old out r
+    (omega (arith, Nat.mul-le-mul_right n end, Nat.div-add-mod' (length table) n, h.groups))

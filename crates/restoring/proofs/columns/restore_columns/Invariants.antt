@@ -7,7 +7,7 @@ use Rattle.restoring.proofs.columns.Across.{Done}
 use Rattle.restoring.proofs.columns.restore_columns.Given as goal
 
 abbrev pub invariant-loop-j : goal.invariant-loop-j
-invariant-loop-j l = (1 ≤ l.w) × (l.w ≤ l.n) × (l.j ≤ l.n) × (length l.out ≡ length l.table) × Done l.n l.j (restored l.n l.table) l.out
+invariant-loop-j l = (1 ≤ l.w) × (l.w ≤ l.n) × (length l.out ≡ length l.table) × Done l.n l.j (restored l.n l.table) l.out
 
 abbrev pub decreases-loop-j : goal.decreases-loop-j
 decreases-loop-j l = l.n - l.j

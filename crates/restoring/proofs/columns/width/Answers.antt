@@ -2,11 +2,11 @@
 use Rattle.restoring.proofs.columns.Some.{width_one, width_four, width_eight}
 use Rattle.restoring.proofs.columns.width.Goals as goal
 
-pub returns-then-n-lt4 : goal.returns-then-n-lt4
-returns-then-n-lt4 c = search width_one
+pub returns-in-0-to-3 : goal.returns-in-0-to-3
+returns-in-0-to-3 c = search width_one
 
-pub returns-then-n-lt8 : goal.returns-then-n-lt8
-returns-then-n-lt8 c = search width_four
+pub returns-in-4-to-7 : goal.returns-in-4-to-7
+returns-in-4-to-7 c = search width_four
 
-pub returns-else-n-lt8 : goal.returns-else-n-lt8
-returns-else-n-lt8 c = search width_eight
+pub returns-in_default : goal.returns-in_default
+returns-in_default c = search width_eight

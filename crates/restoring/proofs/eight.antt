@@ -1,2 +1,0 @@
--- What the proofs of `eight` use.
-mod Laws

@@ -1,2 +1,0 @@
--- What the proofs of `four` use.
-mod Laws
