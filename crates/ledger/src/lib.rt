@@ -7,24 +7,24 @@
 pub mod report;
 pub mod total;
 
-ghost use Rattle.std.specs.Prelude.{◌≡◌, ◌<◌};
-ghost use Rattle.ledger.specs.Ledger.{most_records, new_ledger, added};
+ghost use Rattle.std.specs.Prelude.{◌≡◌, ◌≤◌, ◌<◌};
+ghost use Rattle.ledger.specs.Ledger.{most_records, new_ledger, records_of, added};
 
 // The direction of a conversion.
-#[derive(Clone, Copy)]
+#[derive(Clone, Copy, Debug, PartialEq, Eq)]
 pub enum Direction {
     Forward,
     Back,
 }
 
 // A conversion that succeeded: its direction, and how many residues it had.
-#[derive(Clone, Copy)]
+#[derive(Clone, Copy, Debug, PartialEq, Eq)]
 pub struct Record {
     pub direction: Direction,
     pub residues: u32,
 }
 
-// The first `count` records count.
+// The first `count` records count. It is an array, since a session has fixed memory and no heap.
 #[derive(Clone, Copy)]
 pub struct Ledger {
     pub count: u32,
@@ -47,6 +47,14 @@ impl Ledger {
             count: 0,
             records: [none; Ledger::RECORDS],
         }
+    }
+
+    // The records that count.
+    pub fn records(&self) -> &[Record]
+        requires { self.now.count ≤ most_records }
+        ensures { result.now ≡ records_of self.now }
+    {
+        &self.records[..self.count as usize]
     }
 
     // One record more.

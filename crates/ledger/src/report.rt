@@ -1,7 +1,7 @@
 // The report: the records in order, a line each, then the two totals.
 ghost use Rattle.std.specs.Prelude.{[], ◌∷◌, ◌≡◌, ◌+◌, ◌*◌, ◌≤◌, length};
 ghost use Rattle.text.specs.Text.{Appended};
-ghost use Rattle.ledger.specs.Ledger.{most_records, records_of, letter as letter_of, number, line, lines, report as report_of};
+ghost use Rattle.ledger.specs.Ledger.{most_records, records_of, letter, number, line, lines, report};
 
 use crate::total::total;
 use crate::{Direction, Ledger, Record};
@@ -10,7 +10,7 @@ use text::decimal::{decimal_length, put_decimal};
 
 // `F` or `B`.
 fn letter(direction: Direction) -> u8
-    ensures { (result ∷ []) ≡ letter_of direction }
+    ensures { (result ∷ []) ≡ letter direction }
 {
     match direction {
         Direction::Forward => b'F',
@@ -32,35 +32,32 @@ fn put_record(text: &mut [u8], at: usize, entry: Record) -> usize
     requires { at + length (line entry) ≤ length text.old }
     ensures { Appended at (line entry) text.old text.new result }
 {
-    let direction = entry.direction;
-    let blank = put_byte(text, at, letter(direction));
+    let blank = put_byte(text, at, letter(entry.direction));
     let digits = put_byte(text, blank, b' ');
     put_number(text, digits, entry.residues as u64)
 }
 
 // The lines of the records, in order.
-fn put_records(text: &mut [u8], ledger: Ledger) -> usize
-    requires { (ledger.count ≤ most_records) × (length (lines (records_of ledger)) ≤ length text.old) }
-    ensures { Appended 0 (lines (records_of ledger)) text.old text.new result }
+fn put_records(text: &mut [u8], records: &[Record]) -> usize
+    requires { length (lines records.now) ≤ length text.old }
+    ensures { Appended 0 (lines records.now) text.old text.new result }
 {
-    let count = ledger.count as usize;
     let mut end = 0;
-    let mut i = 0;
-    while i < count {
-        end = put_record(text, end, ledger.records[i]);
-        i += 1;
+    for entry in records {
+        end = put_record(text, end, *entry);
     }
     end
 }
 
 // The report, into a list of its length.
 pub fn put_report(text: &mut [u8], ledger: Ledger)
-    requires { (ledger.count ≤ most_records) × (length text.old ≡ length (report_of (records_of ledger))) }
-    ensures { text.new ≡ report_of (records_of ledger) }
+    requires { (ledger.count ≤ most_records) × (length text.old ≡ length (report (records_of ledger))) }
+    ensures { text.new ≡ report (records_of ledger) }
 {
-    let totals = put_records(text, ledger);
-    let back = put_number(text, totals, total(Direction::Forward, ledger));
-    put_number(text, back, total(Direction::Back, ledger));
+    let records = ledger.records();
+    let totals = put_records(text, records);
+    let back = put_number(text, totals, total(Direction::Forward, records));
+    put_number(text, back, total(Direction::Back, records));
 }
 
 // How long a number and its newline are: 64 bits have up to 20 digits.
@@ -78,16 +75,14 @@ fn line_length(entry: Record) -> usize
 }
 
 // How long the lines of the records are.
-fn lines_length(ledger: Ledger) -> usize
-    requires { ledger.count ≤ most_records }
-    ensures { (result ≡ length (lines (records_of ledger))) × (result ≤ most_records * 23) }
+fn lines_length(records: &[Record]) -> usize
+    requires { length records.now ≤ most_records }
+    ensures { (result ≡ length (lines records.now)) × (result ≤ most_records * 23) }
 {
-    let count = ledger.count as usize;
+    // A `for`: of `.map(..).sum()` the check does not prove that it is at most 23 for each record.
     let mut sum = 0;
-    let mut i = 0;
-    while i < count {
-        sum += line_length(ledger.records[i]);
-        i += 1;
+    for entry in records {
+        sum += line_length(*entry);
     }
     sum
 }
@@ -95,9 +90,10 @@ fn lines_length(ledger: Ledger) -> usize
 // How long the report is.
 pub fn report_length(ledger: Ledger) -> usize
     requires { ledger.count ≤ most_records }
-    ensures { result ≡ length (report_of (records_of ledger)) }
+    ensures { result ≡ length (report (records_of ledger)) }
 {
-    let forward = number_length(total(Direction::Forward, ledger));
-    let back = number_length(total(Direction::Back, ledger));
-    lines_length(ledger) + forward + back
+    let records = ledger.records();
+    let forward = number_length(total(Direction::Forward, records));
+    let back = number_length(total(Direction::Back, records));
+    lines_length(records) + forward + back
 }

@@ -16,11 +16,7 @@ pub fn put(text: &mut [u8], at: usize, xs: &[u8]) -> usize
     requires { at + length xs.now ≤ length text.old }
     ensures { Appended at xs.now text.old text.new result }
 {
-    let mut end = at;
-    let mut i = 0;
-    while i < xs.len() {
-        end = put_byte(text, end, xs[i]);
-        i += 1;
-    }
+    let end = at + xs.len();
+    text[at..end].copy_from_slice(xs);
     end
 }

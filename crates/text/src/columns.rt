@@ -11,12 +11,8 @@ pub fn put_blanks(text: &mut [u8], at: usize, k: usize) -> usize
     requires { at + k ≤ length text.old }
     ensures { Appended at (blanks k) text.old text.new result }
 {
-    let mut end = at;
-    let mut i = 0;
-    while i < k {
-        end = put_byte(text, end, b' ');
-        i += 1;
-    }
+    let end = at + k;
+    text[at..end].fill(b' ');
     end
 }
 
@@ -25,7 +21,7 @@ fn magnitude(x: i32) -> u64
     requires { nat_abs x < 2 ^ 31 }
     ensures { result ≡ nat_abs x }
 {
-    if x < 0 { (0 - x) as u64 } else { x as u64 }
+    x.unsigned_abs() as u64
 }
 
 // How many columns x takes with its sign.

@@ -28,10 +28,8 @@ pub fn put_hexadecimal(text: &mut [u8], at: usize, bytes: &[u8]) -> usize
     ensures { Appended at (hexadecimal bytes.now) text.old text.new result }
 {
     let mut end = at;
-    let mut i = 0;
-    while i < bytes.len() {
-        end = put_digits(text, end, bytes[i]);
-        i += 1;
+    for byte in bytes {
+        end = put_digits(text, end, *byte);
     }
     end
 }

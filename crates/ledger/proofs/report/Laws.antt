@@ -6,7 +6,7 @@ use Prim.Native.Nat.{ℕ, ◌+◌, ◌^◌, ◌≤◌, ◌<◌}
 use native.Mathlib.Numerals.{add-one}
 use native.Mathlib.Omega.{arith}
 use lib.ListN.{length, get_or, take, length-append}
-use lib.Seq.{take-suc, take_all}
+use lib.Seq.{take-suc, take-length, take_all}
 use Rattle.text.specs.Ascii.{ascii}
 use Rattle.text.specs.Digits.{decimal}
 use Rattle.text.specs.Text.{Appended}
@@ -16,7 +16,7 @@ use Rattle.ledger.specs.Ledger.{none, total, letter, number, line, lines, report
 use Rattle.ledger.specs.declared.Direction.{Direction}
 use Rattle.ledger.specs.declared.Direction.TheVariants.{Forward, Back}
 use Rattle.ledger.specs.declared.Record.{Record}
-use Rattle.ledger.proofs.Records.{lines-append, lines_monotone, Before, before_there, before_all}
+use Rattle.ledger.proofs.Records.{lines-append, lines_monotone}
 
 -- lengths
 
@@ -103,32 +103,24 @@ pub lines_short : (xs : List Record) → 0 ≡ length (lines (take 0 xs))
 unfolding lines
 lines_short xs = refl
 
-module _ (xs : List Record) (count i : ℕ) (h : Before xs count i) where
-  module _ (more : i < count) where
-    next_long : length (lines (take (i + 1) xs)) ≡ length (lines (take i xs)) + length (line (get_or xs i none))
-    next_long =
-        rw (add-one i, take-suc xs i none (before_there xs count i h more), lines-append, ← one_line (get_or xs i none))
-        (length-append (lines (take i xs)) (line (get_or xs i none)))
+module _ (xs : List Record) (i : ℕ) (more : i < length xs) where
+  next_long : length (lines (take (i + 1) xs)) ≡ length (lines (take i xs)) + length (line (get_or xs i none))
+  next_long =
+      rw (add-one i, take-suc xs i none more, lines-append, ← one_line (get_or xs i none))
+      (length-append (lines (take i xs)) (line (get_or xs i none)))
 
-    pub next_room : (m : ℕ) (before between : List ℕ) → Appended 0 (lines (take i xs)) before between m → length between ≡ length before
-        → length (lines (take count xs)) ≤ length before → m + length (line (get_or xs i none)) ≤ length between
-    next_room m before between a same room = omega (arith, a.end_is, next_long, lines_monotone (i + 1) count xs (omega arith))
+  pub next_room : (m : ℕ) (before between : List ℕ) → Appended 0 (lines (take i xs)) before between m → length between ≡ length before
+      → length (lines xs) ≤ length before → m + length (line (get_or xs i none)) ≤ length between
+  next_room m before between a same room =
+      omega (arith, a.end_is, next_long, lines_monotone (i + 1) (length xs) xs (omega arith), ap (λ ys. length (lines ys)) (take-length xs))
 
-    pub next_line : (m r : ℕ) (before between after : List ℕ) → Appended 0 (lines (take i xs)) before between m
-        → Appended m (line (get_or xs i none)) between after r → Appended 0 (lines (take (i + 1) xs)) before after r
-    next_line m r before between after a b =
-        append_next none lines lines-append 0 i m r xs before between after a (before_there xs count i h more)
-        (subst (λ t. Appended m t between after r) (one_line (get_or xs i none)) b)
+  pub next_line : (m r : ℕ) (before between after : List ℕ) → Appended 0 (lines (take i xs)) before between m
+      → Appended m (line (get_or xs i none)) between after r → Appended 0 (lines (take (i + 1) xs)) before after r
+  next_line m r before between after a b =
+      append_next none lines lines-append 0 i m r xs before between after a more (subst (λ t. Appended m t between after r) (one_line (get_or xs i none)) b)
 
-    pub lines_longer : (m k : ℕ) → m ≡ length (lines (take i xs)) → k ≡ length (line (get_or xs i none)) → m + k ≡ length (lines (take (i + 1) xs))
-    lines_longer m k e f = omega (arith, e, f, next_long)
-
-  module _ (end : count ≤ i) where
-    pub all_lines : (m : ℕ) (before after : List ℕ) → Appended 0 (lines (take i xs)) before after m → Appended 0 (lines (take count xs)) before after m
-    all_lines m before after a = rw (before_all xs count i h end) at a
-
-    pub all_long : (k : ℕ) → k ≡ length (lines (take i xs)) → k ≡ length (lines (take count xs))
-    all_long k e = e ∙ ap (λ ys. length (lines ys)) (before_all xs count i h end)
+  pub lines_longer : (m k : ℕ) → m ≡ length (lines (take i xs)) → k ≡ length (line (get_or xs i none)) → m + k ≡ length (lines (take (i + 1) xs))
+  lines_longer m k e f = omega (arith, e, f, next_long)
 
 -- the lines and the totals
 

@@ -1,31 +1,29 @@
--- Blanks written one behind another.
-use mathlib.Core.Path.{◌≡◌, refl, ap}
-use mathlib.Core.List.{List, [], ◌∷◌, ◌++◌}
-use Prim.Native.Nat.{ℕ, zero, suc, ◌+◌, ◌≤◌, ◌<◌}
-use native.Mathlib.Numerals.{add-one}
+-- Blanks in a part of a list.
+use mathlib.Core.Path.{◌≡◌, ap, ◌∙◌}
+use mathlib.Core.List.{List, ◌++◌}
+use Prim.Native.Nat.{ℕ, ◌+◌, ◌-◌, ◌≤◌}
 use native.Mathlib.Omega.{arith}
-use lib.ListN.{length, replicate}
+use lib.ListN.{length, take, drop, replicate, length-drop, length-replicate}
+use lib.Seq.{length-take-le}
+use borrow.Rule.Slice.PartMut.{put_mid}
+use Rattle.std.proofs.lemmas.Slice.{take-put_mid}
 use Rattle.text.specs.Columns.{blanks}
 use Rattle.text.specs.Text.{Appended}
-use Rattle.text.proofs.Append.{append_nothing, append_both}
-use Rattle.text.proofs.ColumnDetermines.{blanks_end}
 
-one_behind : (k : ℕ) → replicate {A = ℕ} (suc k) 32 ≡ replicate k 32 ++ (32 ∷ [])
-one_behind zero = refl
-one_behind (suc k) = ap (λ l. 32 ∷ l) (one_behind k)
+module _ (at k : ℕ) (before part : List ℕ) (room : at + k ≤ length before)
+    (filled : part ≡ replicate (length (take (at + k - at) (drop at before))) 32) where
+  part_is : part ≡ replicate k 32
+  part_is =
+      let long : length (take (at + k - at) (drop at before)) ≡ at + k - at = length-take-le (at + k - at) (drop at before) (omega (arith, length-drop at before)) in
+      let same : at + k - at ≡ k = omega arith in
+      filled ∙ ap (λ m. replicate m 32) (long ∙ same)
 
-pub blanks_none : (at : ℕ) (before : List ℕ) → Appended at (blanks 0) before before at
-unfolding blanks
-blanks_none at before = append_nothing at before
-
-pub blanks_next : (at i m r : ℕ) (before between after : List ℕ) → Appended at (blanks i) before between m → Appended m (32 ∷ []) between after r
-    → Appended at (blanks (i + 1)) before after r
-unfolding blanks
-blanks_next at i m r before between after h k = rw (add-one i, one_behind i) (append_both at m r (replicate i 32) (32 ∷ []) before between after h k)
-
-pub blanks_room : (at i k m : ℕ) (before after : List ℕ) → Appended at (blanks i) before after m → i < k → length after ≡ length before
-    → at + k ≤ length before → m < length after
-blanks_room at i k m before after h l same room = omega (arith, blanks_end i h)
-
-pub blanks_all : (at i k m : ℕ) (before after : List ℕ) → Appended at (blanks i) before after m → i ≤ k → k ≤ i → Appended at (blanks k) before after m
-blanks_all at i k m before after h l l' = let same : i ≡ k = omega arith in rw same at h
+  pub blanks_put : Appended at (blanks k) before (put_mid at (at + k - at) before part) (at + k)
+  unfolding blanks
+  blanks_put =
+      record {
+        end_is = omega (arith, length-replicate {A = ℕ} k 32);
+        list_is =
+            take-put_mid at (at + k - at) before part (at + k) (omega (arith, ap length part_is, length-replicate {A = ℕ} k 32)) (omega arith)
+            ∙ ap (λ xs. take at before ++ xs) part_is;
+      }

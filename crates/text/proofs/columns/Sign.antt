@@ -2,16 +2,15 @@
 use mathlib.Core.Path.{◌≡◌, refl, sym, ap, subst, ◌∙◌}
 use mathlib.Core.Bool.{true, false}
 use mathlib.Core.List.{List, [], ◌∷◌}
-use Prim.Native.Nat.{ℕ, suc, ◌+◌, ◌^◌, ◌≤◌, ◌<◌}
-use native.Mathlib.Nat as Nat
+use Prim.Native.Nat.{ℕ, ◌+◌, ◌≤◌, ◌<◌}
 use native.Mathlib.Omega.{arith}
 use borrow.Author.Tests.{ltb-true}
 use lib.Dec.{T}
-use lib.IntN.{ℤ, pos, negsuc, nat_abs, ◌-ℤ◌}
-use lib.Signed.{lt_z, non_neg}
+use lib.IntN.{ℤ, pos, negsuc, nat_abs}
+use lib.Signed.{lt_z}
 use lib.ListN.{length}
-use mir.Syntax.{w32, w64}
-use mir.Val.{Fits, SFits, to_z, of_z}
+use mir.Syntax.{w32}
+use mir.Val.{SFits, to_z, of_z}
 use mir.ValLaws.{to_z-of_z}
 use Rattle.text.specs.Digits.{decimal}
 use Rattle.text.specs.Columns.{signed_decimal}
@@ -28,48 +27,6 @@ module _ (x : ℤ) (f : SFits w32 x) where
 
   from_zero : lt_z (to_z w32 (of_z w32 x)) (pos 0) ≡ false → lt_z x (pos 0) ≡ false
   from_zero = subst (λ z. lt_z z (pos 0) ≡ false) (to_z-of_z w32 x f)
-
--- a negative number is the opposite of its magnitude
-opposite : (x : ℤ) → lt_z x (pos 0) ≡ true → pos 0 -ℤ x ≡ pos (nat_abs x)
-opposite (pos n) h = absurd (omega (arith, ltb-true n 0 h))
-opposite (negsuc n) h = ap pos (Nat.zero-add (suc n))
-
-same : (x : ℤ) → lt_z x (pos 0) ≡ false → x ≡ pos (nat_abs x)
-same (pos n) h = refl
-same (negsuc n) h = never (sym h)
-
-module _ (x : ℤ) (small : nat_abs x < 2 ^ 31) (f : SFits w32 x) where
-  magnitude_fits : SFits w32 (pos (nat_abs x))
-  magnitude_fits = record { sfits = small }
-
-  wide : Fits w64 (nat_abs x)
-  wide = record { fits = omega (arith, small) }
-
-  module _ (h : lt_z (to_z w32 (of_z w32 x)) (pos 0) ≡ true) where
-    turned : pos 0 -ℤ to_z w32 (of_z w32 x) ≡ pos (nat_abs x)
-    turned = ap (λ z. pos 0 -ℤ z) (to_z-of_z w32 x f) ∙ opposite x (below_zero x f h)
-
-    pub opposite_fits : SFits w32 (pos 0 -ℤ to_z w32 (of_z w32 x))
-    opposite_fits = subst (SFits w32) (sym turned) magnitude_fits
-
-    read_opposite : to_z w32 (of_z w32 (pos 0 -ℤ to_z w32 (of_z w32 x))) ≡ pos (nat_abs x)
-    read_opposite = to_z-of_z w32 (pos 0 -ℤ to_z w32 (of_z w32 x)) opposite_fits ∙ turned
-
-    pub opposite_cast : T (non_neg (to_z w32 (of_z w32 (pos 0 -ℤ to_z w32 (of_z w32 x))))) × Fits w64 (nat_abs (to_z w32 (of_z w32 (pos 0 -ℤ to_z w32 (of_z w32 x)))))
-    opposite_cast = subst (λ z. T (non_neg z) × Fits w64 (nat_abs z)) (sym read_opposite) (tt, wide)
-
-    pub opposite_is : nat_abs (to_z w32 (of_z w32 (pos 0 -ℤ to_z w32 (of_z w32 x)))) ≡ nat_abs x
-    opposite_is = ap nat_abs read_opposite
-
-  module _ (h : lt_z (to_z w32 (of_z w32 x)) (pos 0) ≡ false) where
-    read_same : to_z w32 (of_z w32 x) ≡ pos (nat_abs x)
-    read_same = to_z-of_z w32 x f ∙ same x (from_zero x f h)
-
-    pub same_cast : T (non_neg (to_z w32 (of_z w32 x))) × Fits w64 (nat_abs (to_z w32 (of_z w32 x)))
-    same_cast = subst (λ z. T (non_neg z) × Fits w64 (nat_abs z)) (sym read_same) (tt, wide)
-
-    pub same_is : nat_abs (to_z w32 (of_z w32 x)) ≡ nat_abs x
-    same_is = ap nat_abs read_same
 
 -- the text of x by its sign
 signed_negative : (x : ℤ) → lt_z x (pos 0) ≡ true → signed_decimal x ≡ 45 ∷ decimal (nat_abs x)
