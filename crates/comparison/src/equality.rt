@@ -12,14 +12,7 @@ pub fn same(n: usize, u: &[u64; 16], v: &[u64; 16]) -> bool
     requires { (n ≤ 16) × (length u.now ≡ 16) × (length v.now ≡ 16) }
     ensures { result ≡ equal (take n u.now) (take n v.now) }
 {
-    let mut i = 0;
-    while i < n {
-        if u[i] != v[i] {
-            return false;
-        }
-        i += 1;
-    }
-    true
+    u[..n] == v[..n]
 }
 
 // Whether u + v = 0.
@@ -27,19 +20,17 @@ pub fn opposite(p: u64, n: usize, u: &[u64; 16], v: &[u64; 16]) -> bool
     requires { (p ≤ 2 ^ 20) × (n ≤ 16) × Holds p n u.now × Holds p n v.now }
     ensures { result ≡ equal (sum p (take n u.now) (take n v.now)) (constant n 0) }
 {
-    let mut i = 0;
-    while i < n {
+    for i in 0..n {
         if add(p, u[i], v[i]) != 0 {
             return false;
         }
-        i += 1;
     }
     true
 }
 
 // Whether u = X modulo T.
 pub fn is_x(p: u64, n: usize, t: &[u64; 16], u: &[u64; 16]) -> bool
-    requires le_p { (2 ≤ p) × (p ≤ 2 ^ 20) × (1 ≤ n) × (n ≤ 16) }
+    requires sizes { (2 ≤ p) × (p ≤ 2 ^ 20) × (1 ≤ n) × (n ≤ 16) }
     requires holds { Holds p n t.now × (length u.now ≡ 16) }
     ensures { result ≡ equal (take n u.now) (residue_of_x p (take n t.now)) }
 {

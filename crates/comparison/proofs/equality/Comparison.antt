@@ -1,14 +1,15 @@
--- Two lists of n words compared word by word: after i words that agree, the words from i on decide.
+-- Two lists of n words compared word by word: by `==`, and by a loop, where after i words that agree the words from i on decide.
 --   Left n xs ys i   both have n words, and whether they are equal is whether they are from i on
 use mathlib.Core.Path.{◌≡◌, refl, sym, ap, ap₂, ◌∙◌}
 use mathlib.Core.Bool.{Bool, true, false, ◌&&◌}
-use mathlib.Core.List.{List}
+use mathlib.Core.List.{List, [], ◌∷◌}
 use Prim.Native.Nat.{ℕ, ◌+◌, ◌%◌, ◌≤◌, ◌<◌}
 use native.Mathlib.Numerals.{add-one}
 use native.Mathlib.Omega.{arith}
 use lib.Dec.{eqb}
+use lib.Pointwise.{pointwise}
 use lib.ListN.{length, get_or, take, drop, drop_of_length-le, get_or-replicate}
-use lib.Seq.{drop-cons, get_or-take, length-take-le}
+use lib.Seq.{drop-cons, get_or-take}
 use borrow.Author.Tests.{eq-eqb, ne_eqb}
 use Rattle.algebra.specs.Lists.{equal}
 use Rattle.quotient.specs.Residue.{sum, constant, residue_of_x}
@@ -49,18 +50,13 @@ module _ (n : ℕ) (xs ys : List ℕ) (i : ℕ) (h : Left n xs ys i) where
       let past_second : length ys ≤ i = omega (arith, h.second_length) in
       sym (h.rest ∙ ap₂ equal (drop_of_length-le xs past_first) (drop_of_length-le ys past_second))
 
--- the words of two arrays
-
-module _ (n : ℕ) (u v : List ℕ) where
-  pub same_starts : n ≤ 16 → length u ≡ 16 → length v ≡ 16 → Left n (take n u) (take n v) 0
-  same_starts short f g = record { first_length = length-take-le n u (omega arith); second_length = length-take-le n v (omega arith); rest = refl }
-
-  module _ (i : ℕ) (h : Left n (take n u) (take n v) i) (l : i < n) where
-    pub same_next : get_or u i 0 ≡ get_or v i 0 → Left n (take n u) (take n v) (i + 1)
-    same_next e = left_next n (take n u) (take n v) i h l (get_or-take n u i 0 l ∙ e ∙ sym (get_or-take n v i 0 l))
-
-    pub same_fails : (get_or u i 0 ≡ get_or v i 0 → ⊥) → false ≡ equal (take n u) (take n v)
-    same_fails e = left_fails n (take n u) (take n v) i h l (λ f. e (sym (get_or-take n u i 0 l) ∙ f ∙ get_or-take n v i 0 l))
+-- `==` of two lists
+pub same_words : (xs ys : List ℕ) → pointwise eqb xs ys ≡ equal xs ys
+unfolding equal
+same_words [] [] = refl
+same_words [] (b ∷ ys) = refl
+same_words (a ∷ xs) [] = refl
+same_words (a ∷ xs) (b ∷ ys) = ap (λ r. eqb a b && r) (same_words xs ys)
 
 -- the words of a sum, and 0
 
