@@ -3,7 +3,7 @@ ghost use mathlib.Core.List.{flatten};
 ghost use Rattle.std.specs.Prelude.{◌≡◌, suc, ◌*◌, ◌≤◌, ◌<◌, length, take};
 ghost use Rattle.array.specs.Array.{Holds};
 ghost use Rattle.array.specs.Words.{Words, word_bound};
-ghost use Rattle.sorting.specs.Sorting.{rows, insert as insert_into};
+ghost use Rattle.sorting.specs.Sorting.{rows, insert};
 
 use crate::order::exchange;
 use array::Word;
@@ -11,16 +11,14 @@ use array::copy::store;
 
 // Inserts u into the first k rows of out, which become k + 1: each row keeps the lower of itself and what is carried to it, and the highest is the last row.
 pub fn insert(n: usize, k: usize, u: &[u64; 16], out: &mut [Word])
-    requires k_lt_n { (k < n) × (n ≤ 16) × (length out.old ≡ n * n) }
+    requires room { (k < n) × (n ≤ 16) × (length out.old ≡ n * n) }
     requires holds { Holds word_bound n u.now × Words word_bound (k * n) (take (k * n) out.old) }
-    ensures { take (suc k * n) out.new ≡ flatten (insert_into (take n u.now) (rows n k out.old)) }
+    ensures { take (suc k * n) out.new ≡ flatten (insert (take n u.now) (rows n k out.old)) }
 {
     let mut carried = *u;
-    let mut j = 0;
-    while j < k {
+    for j in 0..k {
         let start = j * n;
         exchange(n, &mut carried, &mut out[start..start + n]);
-        j += 1;
     }
     let start = k * n;
     store(&carried, &mut out[start..start + n]);

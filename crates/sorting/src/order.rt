@@ -1,7 +1,7 @@
 // Residues in ascending order: coefficients compared from the highest power down.
 ghost use Rattle.std.specs.Prelude.{◌≡◌, ◌≤◌, length, take};
 ghost use Rattle.array.specs.Array.{padded, Holds};
-ghost use Rattle.array.specs.Ascending.{lower as lower_of};
+ghost use Rattle.array.specs.Ascending.{lower};
 ghost use Rattle.array.specs.Words.{word_bound};
 ghost use Rattle.sorting.specs.Sorting.{earlier, later};
 
@@ -11,15 +11,12 @@ use array::copy::{load, store};
 // Whether u comes before v: at the highest power where they differ, u has the smaller coefficient.
 pub fn lower(n: usize, u: &[u64; 16], v: &[u64; 16]) -> bool
     requires { (n ≤ 16) × (length u.now ≡ 16) × (length v.now ≡ 16) }
-    ensures { result ≡ lower_of (take n u.now) (take n v.now) }
+    ensures { result ≡ lower (take n u.now) (take n v.now) }
 {
-    let mut i = 0;
-    while i < n {
-        let j = n - 1 - i;
+    for j in (0..n).rev() {
         if u[j] != v[j] {
             return u[j] < v[j];
         }
-        i += 1;
     }
     false
 }

@@ -21,7 +21,6 @@ use Rattle.sorting.proofs.Insertion.{ordered}
 use Rattle.sorting.proofs.insert.Rows.{row_ends, row_length, row_put, part}
 
 pub record Carrying (n k : ℕ) (u out₀ out carried : List ℕ) (j : ℕ) : Type 0 where
-  pub within : j ≤ k
   pub room : length out ≡ n * n
   pub lengths : length out ≡ length out₀
   pub holds : Holds word_bound n carried
@@ -30,7 +29,7 @@ pub record Carrying (n k : ℕ) (u out₀ out carried : List ℕ) (j : ℕ) : Ty
 
 pub carry_starts : (n k : ℕ) (u out : List ℕ) → length out ≡ n * n → Holds word_bound n u → Carrying n k u out out u 0
 carry_starts n k u out room holds =
-    record { within = omega arith; room = room; lengths = refl; holds = holds; rest = refl; list = rw (Nat.zero-mul, Nat.sub-zero) refl }
+    record { room = room; lengths = refl; holds = holds; rest = refl; list = rw (Nat.zero-mul, Nat.sub-zero) refl }
 
 -- both of two lists of words are lists of words, whichever is lower
 choice_words : (p n : ℕ) (u v : List ℕ) → Words p n u → Words p n v → Words p n (earlier u v) × Words p n (later u v)
@@ -119,7 +118,6 @@ module _ (n k : ℕ) (u out₀ out carried : List ℕ) (j : ℕ) (c : Carrying n
       unfolding later_rows
       carry_turn =
           record {
-            within = omega arith;
             room = same_length ∙ c.room;
             lengths = same_length ∙ c.lengths;
             holds = holds_is new_carried both.1;
@@ -131,10 +129,10 @@ module _ (n k : ℕ) (u out₀ out carried : List ℕ) (j : ℕ) (c : Carrying n
                 ∙ ap (λ xs. take (j * n) out ++ xs) step ∙ c.list;
           }
 
-  pub carried_last : k ≤ j → (z : List ℕ) → z ≡ take (length (take (k * n + n - k * n) (drop (k * n) out))) carried
+  pub carried_last : j ≤ k → k ≤ j → (z : List ℕ) → z ≡ take (length (take (k * n + n - k * n) (drop (k * n) out))) carried
       → take (suc k * n) (put_mid (k * n) (k * n + n - k * n) out z) ≡ flatten (insert (take n u) (rows n k out₀))
-  carried_last l z e =
-      let same : j ≡ k = omega (arith, c.within) in
+  carried_last within l z e =
+      let same : j ≡ k = omega arith in
       let none : k - j ≡ 0 = omega arith in
       let last : z ≡ take n carried = e ∙ ap (λ m. take m carried) (row_length n k out c.room less) in
       row_put n k out c.room less z (ap length last ∙ words_length c.holds.words)

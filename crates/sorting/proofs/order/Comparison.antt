@@ -1,9 +1,9 @@
 -- Comparison from the highest power down: where the words above word j agree and those at j differ, word j decides.
---   Agree n u v i   the i highest of the first n words of u and v agree
+--   Agree n u v j   of the first n words of u and v those from word j on agree
 use mathlib.Core.Path.{◌≡◌, sym, ap, ap₂, subst, ◌∙◌}
 use mathlib.Core.Bool.{true, false, ◌&&◌, ◌||◌, or-false}
 use mathlib.Core.List.{List, [], ◌∷◌}
-use Prim.Native.Nat.{ℕ, zero, suc, ◌+◌, ◌-◌, ◌≤◌, ◌<◌}
+use Prim.Native.Nat.{ℕ, zero, suc, ◌-◌, ◌≤◌, ◌<◌}
 use native.Mathlib.Omega.{arith}
 use lib.Dec.{ltb}
 use lib.ListN.{length, get_or, take, drop, drop_of_length-le}
@@ -28,39 +28,42 @@ word_decides (suc j) (a ∷ u) (b ∷ v) l m e apart =
     ∙ or-false (ltb (get_or u j 0) (get_or v j 0))
 
 abbrev pub Agree : ℕ → List ℕ → List ℕ → ℕ → Type 0
-Agree n u v i = drop (n - i) (take n u) ≡ drop (n - i) (take n v)
+Agree n u v j = drop j (take n u) ≡ drop j (take n v)
 
 module _ (n : ℕ) (u v : List ℕ) (short : n ≤ 16) (lu : length u ≡ 16) (lv : length v ≡ 16) where
   front_length : (w : List ℕ) → length w ≡ 16 → length (take n w) ≡ n
   front_length w l = length-take-le n w (omega arith)
 
-  none_left : (w : List ℕ) → length w ≡ 16 → drop (n - 0) (take n w) ≡ []
-  none_left w l = let all : length (take n w) ≤ n - 0 = omega (arith, front_length w l) in drop_of_length-le (take n w) all
+  none_left : (w : List ℕ) → length w ≡ 16 → drop n (take n w) ≡ []
+  none_left w l = let all : length (take n w) ≤ n = omega (arith, front_length w l) in drop_of_length-le (take n w) all
 
-  pub agree_none : Agree n u v 0
+  pub agree_none : Agree n u v n
   agree_none = none_left u lu ∙ sym (none_left v lv)
 
-  module _ (i : ℕ) (l : i < n) (agree : Agree n u v i) where
-    above : n - i ≡ suc (n - 1 - i)
+  -- word j − 1, below those that agree
+  module _ (j : ℕ) (low : 0 < j) (high : j ≤ n) (agree : Agree n u v j) where
+    above : j ≡ suc (j - 1)
     above = omega arith
 
-    word_at : (w : List ℕ) → get_or (take n w) (n - 1 - i) 0 ≡ get_or w (n - 1 - i) 0
-    word_at w = get_or-take n w (n - 1 - i) 0 (omega arith)
+    word_at : (w : List ℕ) → get_or (take n w) (j - 1) 0 ≡ get_or w (j - 1) 0
+    word_at w = get_or-take n w (j - 1) 0 (omega arith)
 
-    pub agree_next : get_or u (n - 1 - i) 0 ≡ get_or v (n - 1 - i) 0 → Agree n u v (i + 1)
+    later_same : drop (suc (j - 1)) (take n u) ≡ drop (suc (j - 1)) (take n v)
+    later_same = subst (λ k. drop k (take n u) ≡ drop k (take n v)) above agree
+
+    pub agree_next : get_or u (j - 1) 0 ≡ get_or v (j - 1) 0 → Agree n u v (j - 1)
     agree_next e =
-        let next : n - (i + 1) ≡ n - 1 - i = omega arith in
-        ap (λ k. drop k (take n u)) next ∙ drop-cons (take n u) (n - 1 - i) 0 (omega (arith, front_length u lu))
-        ∙ ap₂ ◌∷◌ (word_at u ∙ e ∙ sym (word_at v)) (ap (λ k. drop k (take n u)) (sym above) ∙ agree ∙ ap (λ k. drop k (take n v)) above)
-        ∙ sym (drop-cons (take n v) (n - 1 - i) 0 (omega (arith, front_length v lv))) ∙ ap (λ k. drop k (take n v)) (sym next)
+        drop-cons (take n u) (j - 1) 0 (omega (arith, front_length u lu))
+        ∙ ap₂ ◌∷◌ (word_at u ∙ e ∙ sym (word_at v)) later_same
+        ∙ sym (drop-cons (take n v) (j - 1) 0 (omega (arith, front_length v lv)))
 
-    pub decided : (get_or u (n - 1 - i) 0 ≡ get_or v (n - 1 - i) 0 → ⊥) → ltb (get_or u (n - 1 - i) 0) (get_or v (n - 1 - i) 0) ≡ lower (take n u) (take n v)
+    pub decided : (get_or u (j - 1) 0 ≡ get_or v (j - 1) 0 → ⊥) → ltb (get_or u (j - 1) 0) (get_or v (j - 1) 0) ≡ lower (take n u) (take n v)
     decided apart =
-        sym (word_decides (n - 1 - i) (take n u) (take n v) (omega (arith, front_length u lu)) (omega (arith, front_length v lv))
-        (ap (λ k. drop k (take n u)) (sym above) ∙ agree ∙ ap (λ k. drop k (take n v)) above) (λ e. apart (sym (word_at u) ∙ e ∙ word_at v))
+        sym (word_decides (j - 1) (take n u) (take n v) (omega (arith, front_length u lu)) (omega (arith, front_length v lv)) later_same
+        (λ e. apart (sym (word_at u) ∙ e ∙ word_at v))
         ∙ ap₂ ltb (word_at u) (word_at v))
 
-  pub agree_all : (i : ℕ) → n ≤ i → Agree n u v i → false ≡ lower (take n u) (take n v)
-  agree_all i l agree =
-      let none : n - i ≡ 0 = omega arith in
+  pub agree_all : (j : ℕ) → j ≤ 0 → Agree n u v j → false ≡ lower (take n u) (take n v)
+  agree_all j end agree =
+      let none : j ≡ 0 = omega arith in
       sym (same_not_lower (take n u) (take n v) (subst (λ k. drop k (take n u) ≡ drop k (take n v)) none agree))

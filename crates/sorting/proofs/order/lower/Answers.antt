@@ -1,5 +1,8 @@
-use Rattle.sorting.proofs.order.Comparison.{decided, agree_all}
+use Rattle.sorting.proofs.order.Comparison.{agree_none, decided, agree_all}
 use Rattle.sorting.proofs.order.lower.Goals as goal
+
+pub loop-j-init : goal.loop-j-init
+loop-j-init c = search agree_none
 
 pub returns-then-u-j : goal.returns-then-u-j
 returns-then-u-j c = search decided
