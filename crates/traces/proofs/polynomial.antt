@@ -1,3 +1,2 @@
 -- The laws on which the proofs of `polynomial` rest.
 mod RowLoop
-mod Sizes

@@ -16,10 +16,8 @@ fn trace(d: Barrett, n: usize, k: usize, last: u64, t: &[u64; 16], s: &[u64; 16]
 {
     let first = n - k;
     let mut sum = times(k as u64 + 1, t[first - 1]);
-    let mut j = 0;
-    while j + 1 < k {
+    for j in 0..k.saturating_sub(1) {
         sum += times(s[j], t[first + j]);
-        j += 1;
     }
     d.opposite(sum + times(last, t[n - 1]))
 }
@@ -32,11 +30,9 @@ pub fn traces(d: Barrett, n: usize, t: &[u64; 16]) -> [u64; 16]
 {
     let mut s = [0; 16];
     let mut last = 0;
-    let mut k = 0;
-    while k < n {
+    for k in 0..n {
         last = trace(d, n, k, last, t, &s);
         s[k] = last;
-        k += 1;
     }
     s
 }

@@ -14,28 +14,24 @@ use modular::word::inverse;
 
 // Adds c times row i of m to the sums. Row after row, not column after column: the compiler then multiplies several words at once.
 fn add_row(p: u64, n: usize, i: usize, c: u64, m: &[u64; 256], w: &mut [u64; 16])
-    requires p_bound { (p ≤ 2 ^ 20) × (n ≤ 16) × (i < n) × (c ≤ 2 * p) }
+    requires bounds { (p ≤ 2 ^ 20) × (n ≤ 16) × (i < n) × (c ≤ 2 * p) }
     requires square { Square p n m.now × Sums p n i w.old }
     ensures { Sums p n (i + 1) w.new }
 {
-    let mut j = 0;
-    while j < n {
+    for j in 0..n {
         w[j] += times(c, m[16 * i + j]);
-        j += 1;
     }
 }
 
 // The traces of X, X·α, …, X·α^(n−1), not reduced. Row i of m holds the coefficients of X^i in the powers of α, so it counts s[i] times, the trace of X^(i+1).
 fn row_sums(p: u64, n: usize, s: &[u64; 16], m: &[u64; 256]) -> [u64; 16]
-    requires p_bound { (p ≤ 2 ^ 20) × (n ≤ 16) }
+    requires bounds { (p ≤ 2 ^ 20) × (n ≤ 16) }
     requires holds { Holds (2 * p + 1) n s.now × Square p n m.now }
     ensures { Sums p n n result }
 {
     let mut w = [0; 16];
-    let mut i = 0;
-    while i < n {
+    for i in 0..n {
         add_row(p, n, i, s[i], m, &mut w);
-        i += 1;
     }
     w
 }
@@ -56,10 +52,8 @@ fn coefficients(d: Barrett, n: usize, f: u64, g: u64, w: &[u64; 16]) -> [u64; 16
 {
     let mut r = [0; 16];
     r[0] = multiple(d, g, w[0]);
-    let mut i = 1;
-    while i < n {
+    for i in 1..n {
         r[i] = multiple(d, f, w[n - i]);
-        i += 1;
     }
     r
 }

@@ -1,15 +1,12 @@
 -- The loop that adds a multiple of a row to the sums.
 --   AddedRow p n k j w   the first j of the sums have k + 1 products, the others k
-use mathlib.Core.Path.{◌≡◌, subst, ◌∙◌}
+use mathlib.Core.Path.{◌≡◌, ◌∙◌}
 use mathlib.Core.List.{List}
 use Prim.Native.Nat.{ℕ, ◌+◌, ◌*◌, ◌^◌, ◌≤◌, ◌<◌}
-use native.Mathlib.Nat.{mul-le-mul}
 use native.Mathlib.Decide.{ℕ_discrete}
 use native.Mathlib.Omega.{arith}
-use lib.ListN.{get_or, set, replicate, length-set, length-replicate, get_or-replicate}
+use lib.ListN.{get_or, set, length-set}
 use lib.Seq.{get_or-set_same, get_or-set_other}
-use mir.Syntax.{w64}
-use mir.Val.{Fits}
 use Rattle.array.specs.Array.{entry, Square}
 use Rattle.traces.specs.Sums.{Sums}
 use Rattle.traces.proofs.Product.{product_small}
@@ -18,25 +15,13 @@ pub record AddedRow (p n k j : ℕ) (w : List ℕ) : Type 0 where
   pub whole : Sums p n (k + 1) w
   pub few : (i : ℕ) → j ≤ i → i < n → get_or w i 0 ≤ k * (2 * (p * p))
 
-pub row_start : (p n k : ℕ) (w : List ℕ) → Sums p n k w → AddedRow p n k 0 w
-row_start p n k w s = record { whole = record { size = s.size; few = λ i l. omega (arith, s.few i l) }; few = λ i _ l. s.few i l }
-
 module _ (p n k j : ℕ) (m : List ℕ) (small : p ≤ 2 ^ 20) (row : k < n) (turn : j < n) (square : Square p n m) where
   entry_below : entry m k j < p
   entry_below = square.below k j row turn
 
-  pub entry_low : get_or m (16 * k + j) 0 < 2 ^ 32
-  entry_low = omega (arith, entry_below)
-
   module _ (c r : ℕ) (w : List ℕ) (short : n ≤ 16) (s : AddedRow p n k j w) (lc : c ≤ 2 * p) (e : r ≡ c * get_or m (16 * k + j) 0) where
     next_few : get_or w j 0 + r ≤ (k + 1) * (2 * (p * p))
     next_few = omega (arith, e, product_small p c (entry m k j) lc entry_below, s.few j (omega arith) turn)
-
-    pub row_fits : Fits w64 (get_or w j 0 + r)
-    row_fits =
-        let turns : k + 1 ≤ 16 = omega arith in
-        let squares : 2 * (p * p) ≤ 2 ^ 41 = omega (arith, mul-le-mul small small) in
-        omega (arith, next_few, mul-le-mul turns squares)
 
     pub row_turn : AddedRow p n k (j + 1) (set w j (get_or w j 0 + r))
     row_turn =
@@ -51,14 +36,3 @@ module _ (p n k j : ℕ) (m : List ℕ) (small : p ≤ 2 ^ 20) (row : k < n) (tu
         go : (i : ℕ) → i < n → Dec (i ≡ j) → get_or (set w j (get_or w j 0 + r)) i 0 ≤ (k + 1) * (2 * (p * p))
         go i l (yes d) = rw (d, get_or-set_same w j (get_or w j 0 + r) 0 (omega (arith, s.whole.size))) next_few
         go i l (no d) = rw (other i d) (s.whole.few i l)
-
-pub row_end : (p n k j : ℕ) (w : List ℕ) → AddedRow p n k j w → Sums p n (k + 1) w
-row_end p n k j w s = s.whole
-
--- all rows
-
-pub sums_start : (p n : ℕ) → n ≤ 16 → Sums p n 0 (replicate 16 0)
-sums_start p n short = record { size = length-replicate {A = ℕ} 16 0; few = λ j l. omega (arith, get_or-replicate {A = ℕ} 16 j 0 0 (omega arith)) }
-
-pub sums_end : (p n i : ℕ) (w : List ℕ) → i ≤ n → n ≤ i → Sums p n i w → Sums p n n w
-sums_end p n i w l l' s = subst (λ k. Sums p n k w) (omega arith) s

@@ -1,10 +1,7 @@
 -- Before turn k the first k traces are written.
-use Prim.Native.Nat.{◌+◌, ◌-◌, ◌*◌, ◌≤◌}
+use Prim.Native.Nat.{◌+◌, ◌*◌, ◌≤◌}
 use Rattle.array.specs.Array.{Holds}
 use Rattle.traces.proofs.newton.traces.Given as goal
 
 abbrev pub invariant-loop-k : goal.invariant-loop-k
-invariant-loop-k l = (l.k ≤ l.n) × (l.last ≤ 2 * l.d.p) × Holds (2 * l.d.p + 1) l.k l.s
-
-abbrev pub decreases-loop-k : goal.decreases-loop-k
-decreases-loop-k l = l.n - l.k
+invariant-loop-k l = (l.last ≤ 2 * l.d.p) × Holds (2 * l.d.p + 1) l.k l.s
