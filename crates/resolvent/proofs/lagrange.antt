@@ -2,4 +2,3 @@
 mod AddLoop
 mod TermLoop
 mod ReduceLoop
-mod Divisor

@@ -16,14 +16,12 @@ use modular::word::power;
 // Adds c·x to sums of k terms. Nothing is reduced: the words of 16 terms fit. Only the contract uses p and k. All 16 words are added, because a loop
 // with a known number of turns is faster.
 fn add_multiple(p: u64, k: usize, c: u64, x: &[u64; 16], sums: &mut [u64; 16])
-    requires p_bound { (p ≤ 2 ^ 20) × (k < 16) × (c < p) }
+    requires bounds { (p ≤ 2 ^ 20) × (k < 16) × (c < p) }
     requires holds { Holds p 16 x.now × Sums p k sums.old }
     ensures { Sums p (k + 1) sums.new }
 {
-    let mut i = 0;
-    while i < 16 {
+    for i in 0..16 {
         sums[i] += times(c, x[i]);
-        i += 1;
     }
 }
 
@@ -41,10 +39,8 @@ fn ones(n: usize) -> [u64; 16]
     ensures { Holds 2 n result }
 {
     let mut w = [0; 16];
-    let mut i = 0;
-    while i < n {
+    for i in 0..n {
         w[i] = 1;
-        i += 1;
     }
     w
 }
@@ -58,12 +54,10 @@ fn sum_of_terms(d: Barrett, n: usize, y: u64, m: &[u64; 256]) -> [u64; 16]
     let mut x = ones(n);
     let mut sums = x;
     let mut c = 1;
-    let mut j = 1;
-    while j < n {
+    for j in 1..n {
         x = products(d, n, n, m, &x);
         c = multiply(d, c, y);
         add_multiple(d.p, j, c, &x, &mut sums);
-        j += 1;
     }
     sums
 }
@@ -75,17 +69,15 @@ fn reduce(d: Barrett, n: usize, sums: &[u64; 16]) -> [u64; 16]
     ensures { Holds d.p n result }
 {
     let mut w = [0; 16];
-    let mut i = 0;
-    while i < n {
+    for i in 0..n {
         w[i] = d.reduce(sums[i]);
-        i += 1;
     }
     w
 }
 
 // The resolvent for the matrix m of F. The inverse of z is z^(n−1).
 pub fn resolvent(p: u64, n: usize, z: u64, m: &[u64; 256]) -> [u64; 16]
-    requires le_p { (2 ≤ p) × (p ≤ 2 ^ 20) × (1 ≤ n) × (n ≤ 16) × (z < p) }
+    requires bounds { (2 ≤ p) × (p ≤ 2 ^ 20) × (1 ≤ n) × (n ≤ 16) × (z < p) }
     requires square { Square p n m.now }
     ensures { Holds p n result }
 {

@@ -18,10 +18,6 @@ pub record Adding (p k i : ℕ) (w : List ℕ) : Type 0 where
   pub sums : Sums p (k + 1) w
   pub rest : (j : ℕ) → i ≤ j → get_or w j 0 ≤ k * (p * p)
 
-pub add_starts : (p k : ℕ) (w : List ℕ) → Sums p k w → Adding p k 0 w
-add_starts p k w h =
-    record { sums = record { size = h.size; small = λ j. omega (arith, h.small j) }; rest = λ j l. h.small j }
-
 pub word_low : (p i : ℕ) (x : List ℕ) → p ≤ 2 ^ 20 → Holds p 16 x → i < 16 → get_or x i 0 < 2 ^ 32
 word_low p i x few h l = omega (arith, holds_word h i l)
 

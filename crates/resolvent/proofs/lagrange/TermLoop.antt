@@ -55,9 +55,3 @@ module _ (d : Barrett) (n : ℕ) (x : List ℕ) (by : Reduces d) (short : n ≤ 
 
     pub next_whole : Holds d.p 16 x
     next_whole = whole_holds d.p n x by.big short next_holds
-
--- there are at most 16 terms
-pub sums_done : (p n j : ℕ) (w : List ℕ) → n ≤ 16 → j ≤ n → Sums p j w → Sums p 16 w
-sums_done p n j w short l h =
-    let few : j ≤ 16 = omega arith in
-    record { size = h.size; small = λ i. omega (arith, h.small i, Nat.mul-le-mul_right (p * p) few) }

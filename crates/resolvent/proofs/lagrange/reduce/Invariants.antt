@@ -1,10 +1,6 @@
 -- Before turn i there are i words.
-use Prim.Native.Nat.{◌-◌, ◌≤◌}
 use Rattle.array.specs.Array.{Holds}
 use Rattle.resolvent.proofs.lagrange.reduce.Given as goal
 
 abbrev pub invariant-loop-i : goal.invariant-loop-i
-invariant-loop-i l = (l.i ≤ l.n) × Holds l.d.p l.i l.w
-
-abbrev pub decreases-loop-i : goal.decreases-loop-i
-decreases-loop-i l = l.n - l.i
+invariant-loop-i l = Holds l.d.p l.i l.w
