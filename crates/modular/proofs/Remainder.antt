@@ -2,14 +2,18 @@
 --   PowerLeft p a k r b e   r·b^e = a^k modulo p: the power that is left to work out is b^e
 use mathlib.Core.Path.{◌≡◌, sym, ap, ap₂, ◌∙◌}
 use Prim.Native.Nat.{ℕ, zero, suc, ◌+◌, ◌*◌, ◌/◌, ◌%◌, ◌^◌, ◌≤◌, ◌<◌}
-use native.Mathlib.Nat.{mod-eq_of_lt, mod-lt, add-mul-mod_self_right, mul_assoc, mul_comm, mul-one, one-mul, pow-zero, pow-suc}
+use native.Mathlib.Nat.{mod-eq_of_lt, mod-lt, add-mul-mod_self_right, lt_of_le_of_lt, mul-le-mul, mul_assoc, mul_comm, mul-one, one-mul, pow-zero, pow-suc}
 use native.Mathlib.Omega.{arith}
+use lib.Dec.{lit<}
 use lib.Pow.{pow-add}
 use Rattle.algebra.proofs.Modulo.{mul-mod-mod, mod-mul-mod}
 
 -- r is n modulo p, since n = r + q·p and r < p
 pub remainder_unique : (n r q p : ℕ) → n ≡ r + q * p → r < p → r ≡ n % p
 remainder_unique n r q p e h = sym (ap (λ x. x % p) e ∙ add-mul-mod_self_right r q p ∙ mod-eq_of_lt h)
+
+pub product_fits : (a b : ℕ) → a ≤ 1048576 → b ≤ 1048576 → a * b < 2 ^ 64
+product_fits a b ha hb = lt_of_le_of_lt (mul-le-mul ha hb) (lit< tt)
 
 pow-mod : (a m k : ℕ) → (a % m) ^ k % m ≡ a ^ k % m
 pow-mod a m zero = simp pow-zero
