@@ -1,28 +1,28 @@
 // A table of the powers a^k modulo p of the numbers below 128, for one exponent k. A word is 0 until its power is known. The power of a number with a
 // factor 2, 3, 5 or 7 is the product of two powers, and those of the primes are worked out four at a time.
-ghost use Rattle.std.specs.Prelude.{◌≡◌, ◌%◌, ◌^◌, ◌≤◌, ◌<◌};
+ghost use Rattle.std.specs.Prelude.{◌≡◌, ◌%◌, ◌^◌, ◌≤◌, ◌<◌, IfSome};
 ghost use Rattle.modular.specs.Barrett.{Reduces};
 ghost use Rattle.character.specs.Table.{Table, Ascending};
 ghost use Rattle.character.specs.Four.{Low};
 
-use crate::four::{Four, powers};
+use crate::four::powers;
 use modular::barrett::Barrett;
 use modular::word::power;
 
-// The four primes from i on where i is 2, 11, 23, …, so that all primes up to 131 come in turn; else zeros.
-fn primes_from(i: u64) -> Four
-    ensures { Ascending result }
+// The four primes from i on where i is 2, 11, 23, …, so that all primes up to 131 come in turn.
+fn primes_from(i: u64) -> Option<[u64; 4]>
+    ensures { IfSome result (λ x. Ascending x) }
 {
     match i {
-        2 => Four::new(2, 3, 5, 7),
-        11 => Four::new(11, 13, 17, 19),
-        23 => Four::new(23, 29, 31, 37),
-        41 => Four::new(41, 43, 47, 53),
-        59 => Four::new(59, 61, 67, 71),
-        73 => Four::new(73, 79, 83, 89),
-        97 => Four::new(97, 101, 103, 107),
-        109 => Four::new(109, 113, 127, 131),
-        _ => Four::new(0, 0, 0, 0),
+        2 => Some([2, 3, 5, 7]),
+        11 => Some([11, 13, 17, 19]),
+        23 => Some([23, 29, 31, 37]),
+        41 => Some([41, 43, 47, 53]),
+        59 => Some([59, 61, 67, 71]),
+        73 => Some([73, 79, 83, 89]),
+        97 => Some([97, 101, 103, 107]),
+        109 => Some([109, 113, 127, 131]),
+        _ => None,
     }
 }
 
@@ -76,7 +76,7 @@ fn value(m: Barrett, k: u64, a: u64, c: &[u64; 128]) -> u64
 
 // Writes one power into the table, if it has a place for it.
 fn write(p: u64, k: u64, a: u64, r: u64, c: &mut [u64; 128])
-    requires r_value { (r ≡ a ^ k % p) × (r < p) }
+    requires power { (r ≡ a ^ k % p) × (r < p) }
     requires table { Table p k c.old }
     ensures { Table p k c.new }
 {
@@ -87,16 +87,15 @@ fn write(p: u64, k: u64, a: u64, r: u64, c: &mut [u64; 128])
 }
 
 // Writes the powers of four numbers into the table.
-fn enter(m: Barrett, k: u64, x: Four, c: &mut [u64; 128])
+fn enter(m: Barrett, k: u64, x: [u64; 4], c: &mut [u64; 128])
     requires reduces { Reduces m × Low m.p x }
     requires table { Table m.p k c.old }
     ensures { Table m.p k c.new }
 {
     let r = powers(m, k, x);
-    write(m.p, k, x.a, r.a, c);
-    write(m.p, k, x.b, r.b, c);
-    write(m.p, k, x.c, r.c, c);
-    write(m.p, k, x.d, r.d, c);
+    for i in 0..4 {
+        write(m.p, k, x[i], r[i], c);
+    }
 }
 
 // Writes the powers of the four primes from a on into the table, if four come together there and are below p.
@@ -105,14 +104,10 @@ fn extend(m: Barrett, k: u64, a: u64, c: &mut [u64; 128])
     requires table { Table m.p k c.old }
     ensures { Table m.p k c.new }
 {
-    let x = primes_from(a);
-    if x.d == 0 {
-        return;
+    match primes_from(a) {
+        Some(x) if x[3] < m.p => enter(m, k, x, c),
+        _ => {}
     }
-    if x.d >= m.p {
-        return;
-    }
-    enter(m, k, x, c);
 }
 
 // The power of the number a; the table holds it afterwards, if it has a place for it.

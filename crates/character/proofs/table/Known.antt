@@ -7,8 +7,6 @@ use native.Mathlib.Nat.{pow-zero, pow-suc, mul_comm, mul-zero, zero-mul, zero-mo
 use native.Mathlib.Omega.{arith}
 use lib.ListN.{get_or, set, length-set}
 use lib.Seq.{get_or-set_same, get_or-set_other}
-use mir.Syntax.{w64}
-use mir.Val.{Fits}
 use Rattle.algebra.proofs.Modulo.{mul-mod-mod, mod-mul-mod}
 use Rattle.modular.proofs.Factors.{words_few}
 use Rattle.character.specs.Table.{Table}
@@ -46,14 +44,8 @@ module _ (p k : ℕ) (c : List ℕ) (h : Table p k c) where
   pub found : (a : ℕ) → a < 128 → (get_or c a 0 ≡ 0 → ⊥) → get_or c a 0 ≡ a ^ k % p
   found a l other = h.known a l other
 
-  pub found_below : (a : ℕ) → a < 128 → get_or c a 0 < p
-  found_below a l = h.below a l
-
   pub quotient_place : (a q : ℕ) → a < 128 → a / q < 128
   quotient_place a q l = omega (arith, div-le_self a q)
-
-  pub quotient_fits : (a q : ℕ) → a < 128 → Fits w64 (a / q * 8)
-  quotient_fits a q l = let place : a / q < 128 = quotient_place a q l in record { fits = omega arith }
 
   pub quotient_below : (a q : ℕ) → a < 128 → get_or c (a / q) 0 < p
   quotient_below a q l = h.below (a / q) (quotient_place a q l)

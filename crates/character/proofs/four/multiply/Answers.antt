@@ -1,16 +1,14 @@
 -- `multiply`: the products are small enough to be reduced.
 use Rattle.std.proofs.Common.{rules}
 use Rattle.modular.proofs.Factors.{few}
+use Rattle.character.proofs.four.PowerTurn.{multiply_turn, multiply_end}
 use Rattle.character.proofs.four.multiply.Goals as goal
 
 pub near-requires : goal.near-requires
-near-requires c = (search rules, search few)
+near-requires c = (search rules, search (few, c.requires.1.below c.loop-i.i, c.requires.2.below c.loop-i.i))
 
-pub near-requires-2 : goal.near-requires-2
-near-requires-2 c = (search rules, search few)
+pub loop-i-preserved : goal.loop-i-preserved
+loop-i-preserved c = search multiply_turn
 
-pub near-requires-3 : goal.near-requires-3
-near-requires-3 c = (search rules, search few)
-
-pub near-requires-4 : goal.near-requires-4
-near-requires-4 c = (search rules, search few)
+pub returns : goal.returns
+returns c = search multiply_end
