@@ -19,10 +19,9 @@ pub fn conjugate(d: Barrett, n: usize, t: &[u64; 16], m: &[u64; 256], k: usize) 
     ensures { result ≡ padded (conjugate_of_x d.p (take n t.now) k) }
 {
     let mut u = residue_of_x(d.p, n, t);
-    let mut i = 0;
-    while i < k {
+    // The turns are counted by name, since the loop's invariant says that u is X^(p^i).
+    for _i in 0..k {
         u = products(d, n, n, m, &u);
-        i += 1;
     }
     u
 }

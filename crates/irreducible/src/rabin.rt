@@ -53,12 +53,10 @@ fn passes_each(d: Barrett, n: usize, t: &[u64; 16], m: &[u64; 256], numbers: &[u
     requires holds { Holds d.p n t.now × Frobenius d.p n (take n t.now) m.now }
     ensures { Decides result (All (Passes d.p n (take n t.now)) numbers.now) }
 {
-    let mut i = 0;
-    while i < numbers.len() {
-        if !passes(d, n, t, m, numbers[i]) {
+    for q in numbers {
+        if !passes(d, n, t, m, *q) {
             return false;
         }
-        i += 1;
     }
     true
 }
@@ -82,7 +80,7 @@ fn satisfies(d: Barrett, n: usize, t: &[u64; 16]) -> bool
 // Whether T has no monic divisor of degree 1 to n − 1.
 pub fn is_irreducible(p: u64, n: usize, t: &[u64; 16]) -> bool
     requires prime { Prime p }
-    requires p_bound { (p ≤ 2 ^ 20) × (1 ≤ n) × (n ≤ 16) }
+    requires sizes { (p ≤ 2 ^ 20) × (1 ≤ n) × (n ≤ 16) }
     requires holds { Holds p n t.now }
     ensures { result ≡ not (has_divisor p (take n t.now)) }
 {

@@ -1,13 +1,9 @@
 -- `conjugate` applies the matrix of u ↦ u^p to X again and again.
 use lib.ListN.{take}
-use Prim.Native.Nat.{◌-◌, ◌≤◌}
 use mathlib.Core.Path.{◌≡◌}
 use Rattle.array.specs.Array.{padded}
 use Rattle.irreducible.specs.Rabin.{conjugate_of_x}
 use Rattle.irreducible.proofs.conjugate.conjugate.Given as goal
 
 abbrev pub invariant-loop-i : goal.invariant-loop-i
-invariant-loop-i l = (l.i ≤ l.k) × (l.u ≡ padded (conjugate_of_x l.d.p (take l.n l.t) l.i))
-
-abbrev pub decreases-loop-i : goal.decreases-loop-i
-decreases-loop-i l = l.k - l.i
+invariant-loop-i l = l.u ≡ padded (conjugate_of_x l.d.p (take l.n l.t) l._i)
