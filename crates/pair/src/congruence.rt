@@ -13,7 +13,7 @@ use residue::ring::product;
 
 // Whether T1(S) = 0 modulo T, by the matrix of the powers of S: S^n is opposite to what the lower words of T1 give.
 fn is_root(p: u64, n: usize, t: &[u64; 16], s: &[u64; 16], m: &[u64; 256], t1: &[u64; 16]) -> bool
-    requires le_p { (2 ≤ p) × (p ≤ 2 ^ 20) × (1 ≤ n) × (n ≤ 16) }
+    requires sizes { (2 ≤ p) × (p ≤ 2 ^ 20) × (1 ≤ n) × (n ≤ 16) }
     requires holds { Holds p n t.now × Holds p n s.now × Holds p n t1.now × Powers p n (take n t.now) (take n s.now) m.now }
     ensures { result ≡ equal (modulus_at p (take n t.now) (take n s.now) (take n t1.now)) (constant n 0) }
 {
@@ -32,15 +32,11 @@ pub fn congruent(
     s: &[u64; 16],
     r: &[u64; 16],
 ) -> bool
-    requires le_p { (2 ≤ p) × (p ≤ 2 ^ 20) × (1 ≤ n) × (n ≤ 16) }
+    requires sizes { (2 ≤ p) × (p ≤ 2 ^ 20) × (1 ≤ n) × (n ≤ 16) }
     requires holds { Holds p n t1.now × Holds p n t2.now × Holds p n s.now × Holds p n r.now }
     ensures { result ≡ congruences_hold p (take n t1.now) (take n t2.now) (take n s.now) (take n r.now) }
 {
     let mut m = [0; 256];
     powers(p, n, t2, s, &mut m);
-    if !is_root(p, n, t2, s, &m, t1) {
-        return false;
-    }
-    let image = apply(p, n, &m, r);
-    is_x(p, n, t2, &image)
+    is_root(p, n, t2, s, &m, t1) && is_x(p, n, t2, &apply(p, n, &m, r))
 }

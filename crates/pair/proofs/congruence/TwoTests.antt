@@ -1,11 +1,10 @@
 -- The two tests of `congruent`, from one matrix of the powers of S modulo T2: what each array holds, and what the tests decide.
 use mathlib.Core.Path.{◌≡◌, sym, ap, ap₂, ◌∙◌}
-use mathlib.Core.Bool.{Bool, true, false, not, ◌&&◌}
+use mathlib.Core.Bool.{Bool, true, false, ◌&&◌}
 use mathlib.Core.List.{List}
 use Prim.Native.Nat.{ℕ, suc, ◌-◌, ◌≤◌}
 use native.Mathlib.Omega.{arith}
 use lib.ListN.{length, take}
-use borrow.Author.Tests.{not-true, not-false}
 use Rattle.algebra.specs.Lists.{equal}
 use Rattle.array.specs.Words.{Words}
 use Rattle.quotient.specs.Residue.{sum, constant, product, power, residue_of_x, substitute, modulus_at}
@@ -71,11 +70,11 @@ module _ (p n : ℕ) (t s m : List ℕ) (h : Powers p n (take n t) (take n s) m)
         ap (λ a. a && equal (substitute p (take n t) (take n s) (take n r)) (residue_of_x p (take n t))) k
         ∙ CongruenceTest.hold_of_two big n some z.words x.words y.words w.words
 
-    pub root_fails : not b ≡ true → false ≡ congruences_hold p (take n t1) (take n t) (take n s) (take n r)
-    root_fails f = ap (λ a. a && equal (substitute p (take n t) (take n s) (take n r)) (residue_of_x p (take n t))) (sym (not-true b f)) ∙ tests
+    pub root_fails : b ≡ false → b ≡ congruences_hold p (take n t1) (take n t) (take n s) (take n r)
+    root_fails f = f ∙ ap (λ a. a && equal (substitute p (take n t) (take n s) (take n r)) (residue_of_x p (take n t))) (sym f) ∙ tests
 
-    pub inverse_decides : (image : List ℕ) (c : Bool) → not b ≡ false → image ≡ padded (matrix_product p n m (take n r)) → c ≡ equal (take n image) (residue_of_x p (take n t))
+    pub inverse_decides : (image : List ℕ) (c : Bool) → b ≡ true → image ≡ padded (matrix_product p n m (take n r)) → c ≡ equal (take n image) (residue_of_x p (take n t))
         → c ≡ congruences_hold p (take n t1) (take n t) (take n s) (take n r)
     inverse_decides image c f e g =
         g ∙ ap (λ l. equal l (residue_of_x p (take n t))) (image_front r image w e)
-        ∙ ap (λ a. a && equal (substitute p (take n t) (take n s) (take n r)) (residue_of_x p (take n t))) (sym (not-false b f)) ∙ tests
+        ∙ ap (λ a. a && equal (substitute p (take n t) (take n s) (take n r)) (residue_of_x p (take n t))) (sym f) ∙ tests

@@ -4,11 +4,11 @@ use Rattle.matrix.proofs.PowerMatrix.{square_of_powers}
 use Rattle.pair.proofs.congruence.TwoTests.{root_fails, inverse_decides}
 use Rattle.pair.proofs.congruence.congruent.Goals as goal
 
-pub returns-then-not-is_root : goal.returns-then-not-is_root
-returns-then-not-is_root c = search root_fails
+pub returns-else-is_root : goal.returns-else-is_root
+returns-else-is_root c = search root_fails
 
-pub apply-image-requires-clause-square : goal.apply-image-requires-clause-square
-apply-image-requires-clause-square c = (search square_of_powers, search rules)
+pub apply-requires-clause-square : goal.apply-requires-clause-square
+apply-requires-clause-square c = (search square_of_powers, search rules)
 
-pub returns : goal.returns
-returns c = search inverse_decides
+pub returns-then-is_root : goal.returns-then-is_root
+returns-then-is_root c = search inverse_decides
