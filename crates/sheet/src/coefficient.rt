@@ -2,7 +2,7 @@
 ghost use Rattle.std.specs.Prelude.{◌≡◌, ◌+◌, ◌*◌, ◌^◌, ◌≤◌, ◌<◌, length};
 ghost use Rattle.array.specs.Words.{Words};
 ghost use Rattle.text.specs.Text.{Appended};
-ghost use Rattle.sheet.specs.Sheet.{centred as centred_of, columns};
+ghost use Rattle.sheet.specs.Sheet.{centred, columns};
 
 use array::Word;
 use text::columns::put_right;
@@ -10,7 +10,7 @@ use text::columns::put_right;
 // The word v, less p where it is above half of p.
 pub fn centred(p: u32, v: u32) -> i32
     requires { (v < p) × (p ≤ 2 ^ 20) }
-    ensures { result ≡ centred_of p v }
+    ensures { result ≡ centred p v }
 {
     if v <= p / 2 {
         return v as i32;
@@ -24,10 +24,8 @@ pub fn put_coefficients(text: &mut [u8], at: usize, p: u32, u: &[Word]) -> usize
     ensures { Appended at (columns 7 p u.now) text.old text.new result }
 {
     let mut end = at;
-    let mut i = 0;
-    while i < u.len() {
-        end = put_right(text, end, 7, centred(p, u[i]));
-        i += 1;
+    for v in u {
+        end = put_right(text, end, 7, centred(p, *v));
     }
     end
 }

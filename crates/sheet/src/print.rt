@@ -2,10 +2,12 @@
 ghost use Rattle.std.specs.Prelude.{◌≡◌, length};
 ghost use Rattle.sheet.specs.Sheet.{sheet_text, sheet_length, sheet_number, sheet_output};
 ghost use Rattle.refusal.specs.Models.{Given};
+ghost use Rattle.refusal.specs.Number.{number_of};
 
 use crate::lines::put_polynomial;
 use array::Word;
 use pair::checker::check_with_output;
+use refusal::Refusal;
 
 // The length of the sheet for coefficient lists of n words.
 pub fn sheet_length(n: u32) -> usize
@@ -25,7 +27,7 @@ fn put_sheet(p: u32, n: u32, t1: &[Word], t2: &[Word], s: &[Word], r: &[Word], o
     put_polynomial(out, fourth, p, b"R  ", r);
 }
 
-// Prints T1, T2, S and R into `out`, for an accepted pair and a list of the sheet's length; else the number of the first refusal that applies.
+// Prints T1, T2, S and R into `out`, for an accepted pair and a list of the sheet's length.
 pub fn sheet(
     p: u32,
     n: u32,
@@ -34,14 +36,13 @@ pub fn sheet(
     s: &[Word],
     r: &[Word],
     out: &mut [u8],
-) -> u32
-    ensures value { result ≡ sheet_number p n t1.now t2.now s.now r.now out.old }
+) -> Result<(), Refusal>
+    ensures value { number_of result ≡ sheet_number p n t1.now t2.now s.now r.now out.old }
     ensures out_after { out.new ≡ sheet_output p n t1.now t2.now s.now r.now out.old }
 {
-    let number = check_with_output(p, n, t1, t2, s, r, out.len() == sheet_length(n));
-    if number != 0 {
-        return number;
+    let checked = check_with_output(p, n, t1, t2, s, r, out.len() == sheet_length(n));
+    if checked == Ok(()) {
+        put_sheet(p, n, t1, t2, s, r, out);
     }
-    put_sheet(p, n, t1, t2, s, r, out);
-    0
+    checked
 }
