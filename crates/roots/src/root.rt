@@ -10,12 +10,9 @@ fn coprime_part(m: u64, n: u64) -> u64
     ensures { (1 ≤ result) × (result ≤ 1048576) }
 {
     let mut r = m;
-    let mut q = 2;
-    while q <= n {
-        if n % q == 0 && r % q == 0 {
-            r = r / q;
-        } else {
-            q += 1;
+    for q in 2..=n {
+        while n % q == 0 && r % q == 0 {
+            r /= q;
         }
     }
     r
@@ -27,13 +24,11 @@ fn inverse_of_degree(m: u64, n: u64) -> u64
     requires { (m ≤ 1048576) × (1 ≤ n) × (n ≤ 16) }
 {
     let mut x = 1;
-    let mut k = 0;
-    while k < n {
+    for _k in 0..n {
         if x % n == 0 {
             return x / n;
         }
         x += m;
-        k += 1;
     }
     0
 }
@@ -44,10 +39,11 @@ fn adjust(p: u64, k: u64, x: u64, h: u64, q: u64, y: u64) -> u64
     ensures { result < p }
 {
     let mut r = y;
-    let mut j = 0;
-    while j < q && power(p, r, k) != x {
+    for _j in 0..q {
+        if power(p, r, k) == x {
+            return r;
+        }
         r = mul(p, r, h);
-        j += 1;
     }
     r
 }
@@ -64,7 +60,7 @@ pub struct Group {
 // The numbers for g, worked out once for all roots.
 pub fn prepare(p: u64, n: u64, g: u64) -> Group
     requires admissible { Admissible p n }
-    requires g_lt_p { g < p }
+    requires below { g < p }
     ensures { (result.generator < p) × (result.index ≤ 1048576) }
 {
     let k = (p - 1) / n;
@@ -80,20 +76,17 @@ pub fn prepare(p: u64, n: u64, g: u64) -> Group
 // a prime q of d satisfies the same with d/q for d; then h^q takes the place of h.
 fn candidate(p: u64, n: u64, by: Group, b: u64) -> u64
     requires admissible { Admissible p n }
-    requires generator_lt_p { (by.generator < p) × (by.index ≤ 1048576) × (b < p) }
+    requires group { (by.generator < p) × (by.index ≤ 1048576) × (b < p) }
     ensures { result < p }
 {
     let mut y = power(p, b, by.exponent);
     let mut h = by.generator;
     let mut d = by.index;
-    let mut q = 2;
-    while q <= n && d > 1 {
-        if d % q == 0 {
-            d = d / q;
+    for q in 2..=n {
+        while d > 1 && d % q == 0 {
+            d /= q;
             y = adjust(p, n * d, power(p, b, d), h, q, y);
             h = power(p, h, q);
-        } else {
-            q += 1;
         }
     }
     y
@@ -110,7 +103,7 @@ fn solves(p: u64, n: u64, a1: u64, a2: u64, c: u64) -> bool
 // Some c with c^n·a2 = a1: the candidate, or else the first that a scan finds.
 fn solution(p: u64, n: u64, by: Group, a1: u64, a2: u64) -> u64
     requires admissible { Admissible p n }
-    requires generator_lt_p { (by.generator < p) × (by.index ≤ 1048576) }
+    requires group { (by.generator < p) × (by.index ≤ 1048576) }
     requires solvable { Solvable p n a1 a2 }
     ensures { (result < p) × (result ^ n * a2 % p ≡ a1) }
 {
@@ -128,20 +121,18 @@ fn solution(p: u64, n: u64, by: Group, a1: u64, a2: u64) -> u64
 // The smallest c with c^n·a2 = a1, given ζ and the group's numbers.
 pub fn root_of_ratio(p: u64, n: u64, z: u64, by: Group, a1: u64, a2: u64) -> u64
     requires admissible { Admissible p n }
-    requires generator_lt_p { (by.generator < p) × (by.index ≤ 1048576) }
-    requires z_lt_p { (z < p) × OrderModulo p n z }
+    requires group { (by.generator < p) × (by.index ≤ 1048576) }
+    requires order { (z < p) × OrderModulo p n z }
     requires solvable { Solvable p n a1 a2 }
     ensures { (result ≡ root_of_ratio p n a1 a2) × (result < p) }
 {
     let mut x = solution(p, n, by, a1, a2);
     let mut least = x;
-    let mut k = 1;
-    while k < n {
+    for _k in 1..n {
         x = mul(p, x, z);
         if x < least {
             least = x;
         }
-        k += 1;
     }
     least
 }

@@ -1,6 +1,6 @@
 // Roots of unity modulo a prime p, where n divides p − 1: an element of order n, and ζ, the smallest of them.
 ghost use Rattle.std.specs.Prelude.{◌≡◌, ◌≤◌, ◌<◌};
-ghost use Rattle.roots.specs.Roots.{zeta as zeta_of, Admissible, OrderModulo};
+ghost use Rattle.roots.specs.Roots.{zeta, Admissible, OrderModulo};
 ghost use Rattle.algebra.specs.Search.{Decides};
 
 use modular::word::{mul, power};
@@ -11,13 +11,11 @@ fn has_order(p: u64, n: u64, w: u64) -> bool
     ensures { Decides result (OrderModulo p n w) }
 {
     let mut x = w;
-    let mut m = 1;
-    while m < n {
+    for _m in 1..n {
         if x == 1 {
             return false;
         }
         x = mul(p, x, w);
-        m += 1;
     }
     x == 1
 }
@@ -41,20 +39,16 @@ fn element_of_order(p: u64, n: u64) -> u64
 // ζ, the smallest of the powers w, w², …, w^n of an element w of order n that have order n.
 pub fn zeta(p: u64, n: u64) -> u64
     requires { Admissible p n }
-    ensures { (result ≡ zeta_of p n) × (result < p) }
+    ensures { (result ≡ zeta p n) × (result < p) }
 {
     let w = element_of_order(p, n);
     let mut least = w;
     let mut x = w;
-    let mut k = 1;
-    while k < n {
+    for _k in 1..n {
         x = mul(p, x, w);
-        if x < least {
-            if has_order(p, n, x) {
-                least = x;
-            }
+        if x < least && has_order(p, n, x) {
+            least = x;
         }
-        k += 1;
     }
     least
 }

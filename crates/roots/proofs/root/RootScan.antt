@@ -4,7 +4,7 @@
 use mathlib.Core.Path.{◌≡◌, refl, sym, ap, subst, ◌∙◌}
 use mathlib.Core.Bool.{Bool, true, false, not}
 use Prim.Native.Nat.{ℕ, ◌+◌, ◌-◌, ◌*◌, ◌/◌, ◌%◌, ◌^◌, ◌≤◌, ◌<◌}
-use native.Mathlib.Nat.{mod-eq_of_lt, pow-zero, pow-suc, div-lt_self, div-le_self, div-add-mod', pos_of_ne-zero, mul-one, mul_assoc}
+use native.Mathlib.Nat.{mul-le-mul, mod-eq_of_lt, pow-zero, pow-suc, div-lt_self, div-le_self, div-add-mod', pos_of_ne-zero, mul-one, mul_assoc}
 use native.Mathlib.Numerals.{add-one}
 use native.Mathlib.Omega.{arith}
 use lib.Dec.{eqb, ltb}
@@ -12,7 +12,6 @@ use borrow.Author.Tests.{ltb-true, eqb-true, eqb-false, not-true, not-false}
 use mir.Syntax.{w64}
 use mir.Val.{Fits}
 use Rattle.algebra.proofs.Modulo.{mod-mul-mod}
-use Rattle.modular.proofs.Remainder.{product_fits}
 use Rattle.roots.specs.Roots.{root_of_ratio, Admissible, OrderModulo, Solvable}
 use Rattle.roots.proofs.RootOfRatio.{root_of_ratio_positive}
 use Rattle.roots.proofs.RootsOfUnity.{Solution, root_of_ratio_times, root_of_ratio_is_multiple}
@@ -35,7 +34,9 @@ pub quotient_small : (r q m : ℕ) → r ≤ m → r / q ≤ m
 quotient_small r q m l = omega (arith, div-le_self r q)
 
 pub exponent_fits : (n d q : ℕ) → n ≤ 16 → d ≤ 1048576 → Fits w64 (n * (d / q))
-exponent_fits n d q low small = record { fits = product_fits n (d / q) (omega arith) (quotient_small d q 1048576 small) }
+exponent_fits n d q low small =
+    let l : n * (d / q) ≤ 16 * 1048576 = mul-le-mul low (quotient_small d q 1048576 small) in
+    record { fits = omega arith }
 
 module _ (p n : ℕ) (h : Admissible p n) where
   -- (p − 1)/n

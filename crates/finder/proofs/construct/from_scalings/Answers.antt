@@ -3,8 +3,8 @@ use Rattle.std.proofs.Common.{rules}
 use Rattle.finder.proofs.construct.FromEigenvectors.{zeta_has_order, found_radicand, choices}
 use Rattle.finder.proofs.construct.from_scalings.Goals as goal
 
-pub radicand-a-requires-clause-z_lt_p : goal.radicand-a-requires-clause-z_lt_p
-radicand-a-requires-clause-z_lt_p c = (search rules, search zeta_has_order)
+pub radicand-a-requires-clause-order : goal.radicand-a-requires-clause-order
+radicand-a-requires-clause-order c = (search rules, search zeta_has_order)
 
 pub scaling-alpha1-requires-clause-order : goal.scaling-alpha1-requires-clause-order
 scaling-alpha1-requires-clause-order c = (search rules, search zeta_has_order)

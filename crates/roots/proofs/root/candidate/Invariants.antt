@@ -1,9 +1,12 @@
--- `candidate`: the numbers stay small; the measure is the quotient and what is left of the factors to try.
-use Prim.Native.Nat.{◌+◌, ◌-◌, ◌≤◌, ◌<◌}
+-- `candidate`: the numbers stay small; each turn of the inner loop divides d.
+use Prim.Native.Nat.{◌≤◌, ◌<◌}
 use Rattle.roots.proofs.root.candidate.Given as goal
 
 abbrev pub invariant-loop-q : goal.invariant-loop-q
-invariant-loop-q l = (l.y < l.p) × (l.h < l.p) × (l.d ≤ 1048576) × (2 ≤ l.q)
+invariant-loop-q l = (l.y < l.p) × (l.h < l.p) × (l.d ≤ 1048576)
 
-abbrev pub decreases-loop-q : goal.decreases-loop-q
-decreases-loop-q l = l.d + (17 - l.q)
+abbrev pub invariant-loop-d : goal.invariant-loop-d
+invariant-loop-d l = (l.y < l.p) × (l.h < l.p) × (l.d ≤ 1048576)
+
+abbrev pub decreases-loop-d : goal.decreases-loop-d
+decreases-loop-d l = l.d

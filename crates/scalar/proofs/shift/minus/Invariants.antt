@@ -1,10 +1,6 @@
 -- `minus` subtracts z from the words of the diagonal one after another.
-use Prim.Native.Nat.{◌-◌}
 use Rattle.scalar.proofs.shift.DiagonalScan.{Diagonal}
 use Rattle.scalar.proofs.shift.minus.Given as goal
 
 abbrev pub invariant-loop-i : goal.invariant-loop-i
 invariant-loop-i l = Diagonal l.p l.z l.i l.initial.m l.m
-
-abbrev pub decreases-loop-i : goal.decreases-loop-i
-decreases-loop-i l = l.n - l.i

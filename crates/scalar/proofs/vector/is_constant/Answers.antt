@@ -1,8 +1,11 @@
-use Rattle.scalar.proofs.vector.VectorScan.{constant_fails, constant_holds}
+-- `is_constant`: only zeros after the first word.
+use Rattle.std.specs.Prelude.{IsTrue, ◌↔◌, ◌≡◌, slice_range}
+use Rattle.std.specs.List.{All}
+use Rattle.std.proofs.Common.{rules}
+use Rattle.scalar.proofs.vector.VectorScan.{is_constant_holds}
 use Rattle.scalar.proofs.vector.is_constant.Goals as goal
 
-pub returns-then-u-i-ne0 : goal.returns-then-u-i-ne0
-returns-then-u-i-ne0 c = search constant_fails
-
 pub returns : goal.returns
-returns c = search constant_holds
+returns c =
+    let zeros : IsTrue c.all.result ↔ All (λ x. x ≡ 0) (slice_range c.args.u.now 1 c.args.n) = search rules in
+    is_constant_holds _ _ _ _ c.requires.size.0 c.requires.size.1 c.requires.holds zeros

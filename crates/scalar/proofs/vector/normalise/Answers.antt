@@ -6,5 +6,5 @@ use Rattle.scalar.proofs.vector.normalise.Goals as goal
 pub inverse-requires-clause-p_bound : goal.inverse-requires-clause-p_bound
 inverse-requires-clause-p_bound c = (search rules, search first_non_zero_positive_word, search first_non_zero_small_word)
 
-pub returns-clause-holds_2 : goal.returns-clause-holds_2
-returns-clause-holds_2 c = search normalised_holds
+pub returns-clause-holds : goal.returns-clause-holds
+returns-clause-holds c = search normalised_holds
