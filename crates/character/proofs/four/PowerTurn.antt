@@ -7,14 +7,12 @@ use mathlib.Core.Bool.{Bool, true, false}
 use mathlib.Core.List.{List}
 use Prim.Native.Nat.{ℕ, ◌+◌, ◌*◌, ◌/◌, ◌%◌, ◌^◌, ◌≤◌, ◌<◌}
 use native.Mathlib.Decide.{ℕ_discrete}
-use native.Mathlib.Nat.{one-mul}
 use native.Mathlib.Omega.{arith}
 use lib.Dec.{eqb}
-use lib.ListN.{length, get_or, set, replicate, length-set, get_or-replicate}
+use lib.ListN.{length, get_or, set, length-set}
 use lib.Seq.{get_or-set_same, get_or-set_other}
 use borrow.Author.Tests.{eqb-true, eqb-false}
 use Rattle.modular.specs.declared.barrett.Barrett.{Barrett}
-use Rattle.modular.specs.Barrett.{Reduces}
 use Rattle.modular.proofs.Remainder.{PowerLeft, power_even, power_odd, power_end}
 use Rattle.character.specs.Four.{Product, Step, Low}
 
@@ -42,9 +40,6 @@ multiply_turn p i w x y r l h e lw =
       below = write_next (λ j z. z < 2 * p) i w r place lw h.below;
     }
 
-pub multiply_end : (p i : ℕ) (x y r : List ℕ) → 4 ≤ i → Multiplied p x y i r → Product p x y r
-multiply_end p i x y r l h = record { value = λ j lj. h.value j (omega arith); below = λ j lj. h.below j (omega arith) }
-
 pub record Reduced (p : ℕ) (x : List ℕ) (i : ℕ) (r : List ℕ) : Type 0 where
   pub size : length r ≡ 4
   pub value : (j : ℕ) → j < i → get_or r j 0 ≡ get_or x j 0 % p
@@ -63,17 +58,6 @@ pub record Powers (p k : ℕ) (x r b : List ℕ) (e : ℕ) : Type 0 where
   pub low_r : Low p r
   pub low_b : Low p b
   pub left : (i : ℕ) → i < 4 → PowerLeft p (get_or x i 0) k (get_or r i 0) (get_or b i 0) e
-
-start_one : (p k x : ℕ) → 2 ≤ p → x < 2 * p → PowerLeft p x k 1 x k
-start_one p k x big l = record { value = ap (λ y. y % p) (one-mul (x ^ k)); below = omega arith; factor_below = l }
-
-pub powers_start : (d : Barrett) → Reduces d → (k : ℕ) (x : List ℕ) → Low d.p x → Powers d.p k x (replicate 4 1) x k
-powers_start d h k x l =
-    record {
-      low_r = record { below = λ i li. rw (get_or-replicate {A = ℕ} 4 i 1 0 li) (omega (arith, h.big)) };
-      low_b = l;
-      left = λ i li. rw (get_or-replicate {A = ℕ} 4 i 1 0 li) (start_one d.p k (get_or x i 0) h.big (l.below i li));
-    }
 
 module _ (d : Barrett) (k e : ℕ) (x r b : List ℕ) (l : Powers d.p k x r b e) where
   pub powers_turn : (s c : List ℕ) → Step d.p (eqb (e % 2) 1) r b s → Product d.p b b c → Powers d.p k x s c (e / 2)

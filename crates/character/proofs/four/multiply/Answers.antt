@@ -1,7 +1,7 @@
 -- `multiply`: the products are small enough to be reduced.
 use Rattle.std.proofs.Common.{rules}
 use Rattle.modular.proofs.Factors.{few}
-use Rattle.character.proofs.four.PowerTurn.{multiply_turn, multiply_end}
+use Rattle.character.proofs.four.PowerTurn.{multiply_turn}
 use Rattle.character.proofs.four.multiply.Goals as goal
 
 pub near-requires : goal.near-requires
@@ -9,6 +9,3 @@ near-requires c = (search rules, search (few, c.requires.1.below c.loop-i.i, c.r
 
 pub loop-i-preserved : goal.loop-i-preserved
 loop-i-preserved c = search multiply_turn
-
-pub returns : goal.returns
-returns c = search multiply_end

@@ -1,8 +1,5 @@
-use Rattle.character.proofs.four.PowerTurn.{powers_start, powers_turn, powers_end}
+use Rattle.character.proofs.four.PowerTurn.{powers_turn, powers_end}
 use Rattle.character.proofs.four.powers.Goals as goal
-
-pub loop-e-init : goal.loop-e-init
-loop-e-init c = search powers_start
 
 pub loop-e-preserved : goal.loop-e-preserved
 loop-e-preserved c = search powers_turn
