@@ -13,55 +13,49 @@ use native.Mathlib.Omega.{arith}
 use Rattle.held.specs.Held.{view, valid_held}
 use Rattle.held.specs.declared.Held.{Held}
 use Rattle.pairing.specs.Pairing as Pairing
-use Rattle.pairing.specs.declared.HeldStep.{HeldStep}
 use Rattle.ledger.specs.Ledger.{most_records}
 use Rattle.ledger.specs.declared.Direction.{Direction}
 use Rattle.work.specs.Work.{new_work, is_paired, addressed}
-use Rattle.work.specs.declared.RecordStep.{RecordStep}
 use Rattle.work.specs.declared.Work.{Work}
-use Rattle.work.specs.declared.WorkStep.{WorkStep}
 use Rattle.conversion.specs.Conversion as Conversion
 use Rattle.conversion.proofs.Numbers.{accepted}
 use Rattle.running.specs.Running as Running
 use Rattle.running.specs.OverPair.{OverPair}
 use Rattle.running.proofs.Numbers.{end-zero}
 use Rattle.session.specs.Room.{Room}
-use Rattle.session.specs.Session.{counted, answer, step_with, placed, holding, load, propose, find, record_with, convert, convert_output, begin, feed, feed_output, end, clear}
+use Rattle.session.specs.Session.{counted, answer, step_with, placed, load, propose, find, record_with, convert, convert_output, begin, feed, feed_output, end, clear}
 use Rattle.session.specs.declared.Session.{Session}
-use Rattle.session.specs.declared.Step.{Step}
+use Rattle.session.specs.Step.{Step}
 use Rattle.session.proofs.CountsAs.{counted_itself, counted_parts, paired_itself}
 
-module _ {A : Type 0} (F : Step → A) (x : Session) (r : A) where
-  module _ (w : Work) (f : w ≡ (counted x).work) where
-    module _ (z : Held) (g : z ≡ addressed w) (y : HeldStep) (u : WorkStep) (e : u ≡ placed w y) (a : r ≡ F (step_with x u)) where
-      in_its_place : r ≡ F (holding x y)
-      in_its_place = a ∙ ap (λ v. F (step_with x v)) (e ∙ ap (λ v. placed v y) f)
+module _ {A : Type 0} (F : Step → A) (x : Session) (r : A) (w : Work) (f : w ≡ (counted x).work) where
+  module _ (z : Held) (g : z ≡ addressed w) where
+    pub load_answers : (p n : ℕ) (t1 t2 : List ℕ) → r ≡ F (step_with x (placed w (Pairing.load z p n t1 t2))) → r ≡ F (load x p n t1 t2)
+    load_answers p n t1 t2 a = a ∙ ap₂ (λ u v. F (step_with x (placed u (Pairing.load v p n t1 t2)))) f (g ∙ ap addressed f)
 
-      pub load_answers : (p n : ℕ) (t1 t2 : List ℕ) → y ≡ Pairing.load z p n t1 t2 → r ≡ F (load x p n t1 t2)
-      load_answers p n t1 t2 h = in_its_place ∙ ap (λ v. F (holding x v)) (h ∙ ap (λ v. Pairing.load v p n t1 t2) (g ∙ ap addressed f))
+    pub propose_answers : (s t : List ℕ) → r ≡ F (step_with x (placed w (Pairing.propose z s t))) → r ≡ F (propose x s t)
+    propose_answers s t a = a ∙ ap₂ (λ u v. F (step_with x (placed u (Pairing.propose v s t)))) f (g ∙ ap addressed f)
 
-      pub propose_answers : (s t : List ℕ) → y ≡ Pairing.propose z s t → r ≡ F (propose x s t)
-      propose_answers s t h = in_its_place ∙ ap (λ v. F (holding x v)) (h ∙ ap (λ v. Pairing.propose v s t) (g ∙ ap addressed f))
+    pub find_answers : r ≡ F (step_with x (placed w (Pairing.find z))) → r ≡ F (find x)
+    find_answers a = a ∙ ap₂ (λ u v. F (step_with x (placed u (Pairing.find v)))) f (g ∙ ap addressed f)
 
-      pub find_answers : y ≡ Pairing.find z → r ≡ F (find x)
-      find_answers h = in_its_place ∙ ap (λ v. F (holding x v)) (h ∙ ap Pairing.find (g ∙ ap addressed f))
+  pub feed_answers : (table out : List ℕ) → r ≡ F (step_with x (Running.feed w table out)) → r ≡ F (feed x table out)
+  feed_answers table out a = a ∙ ap (λ u. F (step_with x (Running.feed u table out))) f
 
-    pub feed_answers : (table out : List ℕ) (y : WorkStep) → y ≡ Running.feed w table out → r ≡ F (step_with x y) → r ≡ F (feed x table out)
-    feed_answers table out y h a = a ∙ ap (λ u. F (step_with x u)) (h ∙ ap (λ u. Running.feed u table out) f)
+  pub end_answers : r ≡ F (record_with x (Running.end w)) → r ≡ F (end x)
+  end_answers a = a ∙ ap (λ u. F (record_with x (Running.end u))) f
 
-    pub end_answers : (y : RecordStep) → y ≡ Running.end w → r ≡ F (record_with x y) → r ≡ F (end x)
-    end_answers y h a = a ∙ ap (λ u. F (record_with x u)) (h ∙ ap Running.end f)
+  module _ (k : ℕ) (g : k ≡ (counted x).ledger.count) (d : Direction) where
+    pub convert_answers : (table out : List ℕ) → r ≡ F (record_with x (Conversion.convert d w k table out)) → r ≡ F (convert d x table out)
+    convert_answers table out a = a ∙ ap₂ (λ u j. F (record_with x (Conversion.convert d u j table out))) f g
 
-    module _ (k : ℕ) (g : k ≡ (counted x).ledger.count) (d : Direction) where
-      pub convert_answers : (table out : List ℕ) (y : RecordStep) → y ≡ Conversion.convert d w k table out → r ≡ F (record_with x y) → r ≡ F (convert d x table out)
-      convert_answers table out y h a = a ∙ ap (λ u. F (record_with x u)) (h ∙ ap₂ (λ u j. Conversion.convert d u j table out) f g)
+    pub begin_answers : r ≡ F (step_with x (Running.begin d w k)) → r ≡ F (begin d x)
+    begin_answers a = a ∙ ap₂ (λ u j. F (step_with x (Running.begin d u j))) f g
 
-      pub begin_answers : (y : WorkStep) → y ≡ Running.begin d w k → r ≡ F (step_with x y) → r ≡ F (begin d x)
-      begin_answers y h a = a ∙ ap (λ u. F (step_with x u)) (h ∙ ap₂ (λ u j. Running.begin d u j) f g)
-
-  pub clear_answers : (w : Work) → w ≡ new_work → r ≡ F (step_with x (record { number = 0; work = w })) → r ≡ F (clear x)
-  unfolding step_with answer
-  clear_answers w h a = a ∙ ap (λ u. F (step_with x (record { number = 0; work = u }))) h
+pub clear_answers : {A : Type 0} (F : Step → A) (x : Session) (r : A) (w : Work) → w ≡ new_work → r ≡ F (step_with x (record { number = 0; work = w }))
+    → r ≡ F (clear x)
+unfolding step_with answer
+clear_answers F x r w h a = a ∙ ap (λ u. F (step_with x (record { number = 0; work = u }))) h
 
 -- a record is added to a session that counts as paired and has room: it counts as itself
 pub record Recording (x : Session) : Type 0 where
@@ -88,26 +82,26 @@ module _ (x : Session) (w : Work) (f : w ≡ (counted x).work) where
   pub feed_writes : (table out after : List ℕ) → after ≡ Running.feed_output w table out → after ≡ feed_output x table out
   feed_writes table out after h = h ∙ ap (λ u. Running.feed_output u table out) f
 
-  module _ (y : RecordStep) (h : y ≡ Running.end w) where
-    pub end_records : y.number ≡ 0 → Recording x
+  module _ (j : ℕ) (h : j ≡ (Running.end w).number) where
+    pub end_records : j ≡ 0 → Recording x
     end_records z =
-        let over = (counted_parts x).open_over (end-zero (counted x).work (sym (ap (λ u. u.number) (h ∙ ap Running.end f)) ∙ z)) in
+        let over = (counted_parts x).open_over (end-zero (counted x).work (sym (h ∙ ap (λ u. (Running.end u).number) f) ∙ z)) in
         record { paired = over.over_pair; not_full = over.room }
 
-    pub end_room : Room y.number x
-    end_room = recording_room x y.number end_records
+    pub end_room : Room j x
+    end_room = recording_room x j end_records
 
   module _ (k : ℕ) (g : k ≡ (counted x).ledger.count) (d : Direction) (table out : List ℕ) where
     pub convert_writes : (after : List ℕ) → after ≡ Conversion.convert_output d w k table out → after ≡ convert_output d x table out
     convert_writes after h = h ∙ ap₂ (λ u j. Conversion.convert_output d u j table out) f g
 
-    module _ (y : RecordStep) (h : y ≡ Conversion.convert d w k table out) where
-      pub convert_records : y.number ≡ 0 → Recording x
+    module _ (j : ℕ) (h : j ≡ (Conversion.convert d w k table out).number) where
+      pub convert_records : j ≡ 0 → Recording x
       unfolding Conversion.convert
       convert_records z =
-          let zero = sym (ap (λ u. u.number) (h ∙ ap₂ (λ u j. Conversion.convert d u j table out) f g)) ∙ z in
+          let zero = sym (h ∙ ap₂ (λ u i. (Conversion.convert d u i table out).number) f g) ∙ z in
           let a = accepted (counted x).work (counted x).ledger.count table out zero in
           record { paired = a.paired; not_full = a.room }
 
-      pub convert_room : Room y.number x
-      convert_room = recording_room x y.number convert_records
+      pub convert_room : Room j x
+      convert_room = recording_room x j convert_records

@@ -26,19 +26,18 @@
 use Rattle.std.specs.Prelude.{Bool, true, false, not, List, ℕ, zero, suc, eqb, length}
 use Rattle.refusal.specs.Refusal.{refuse, written}
 use Rattle.pairing.specs.Pairing as Pairing
-use Rattle.pairing.specs.declared.HeldStep.{HeldStep}
+use Rattle.pairing.specs.Step.{HeldStep}
 use Rattle.ledger.specs.Ledger as Ledger
 use Rattle.ledger.specs.Ledger.{new_ledger, records_of, added}
 use Rattle.ledger.specs.declared.Direction.{Direction}
 use Rattle.ledger.specs.declared.Record.{Record}
 use Rattle.work.specs.Work.{new_work, valid_work, looked, addressed, with_addressed}
 use Rattle.work.specs.declared.Work.{Work}
-use Rattle.work.specs.declared.WorkStep.{WorkStep}
-use Rattle.work.specs.declared.RecordStep.{RecordStep}
+use Rattle.work.specs.Step.{WorkStep, RecordStep}
 use Rattle.conversion.specs.Conversion as Conversion
 use Rattle.running.specs.Running as Running
 use Rattle.session.specs.declared.Session.{Session}
-use Rattle.session.specs.declared.Step.{Step}
+use Rattle.session.specs.Step.{Step}
 
 abbrev pub new_session : Session
 new_session = record { work = new_work; ledger = new_ledger }

@@ -1,59 +1,54 @@
 // Load, propose and find act on what is held, or on the waiting session while a table is open.
 ghost use Rattle.std.specs.Prelude.{◌≡◌};
-ghost use Rattle.session.specs.Session.{placed as placed_of, load as load_of, propose as propose_of, find as find_of};
+ghost use Rattle.pairing.specs.Step.{HeldStep, Answers as AnswersHeld};
+ghost use Rattle.work.specs.Step.{Answers};
+ghost use Rattle.session.specs.Session.{placed, load, propose, find};
+ghost use Rattle.session.specs.Step.{step_of};
 
-use crate::{Session, Step};
+use crate::{Refused, Session};
 use array::Word;
-use pairing::HeldStep;
+use held::Held;
 use pairing::find::find as find_held;
 use pairing::load::load as load_held;
 use pairing::propose::propose as propose_held;
+use refusal::Refusal;
+use work::Work;
 use work::addressed::{addressed, with_addressed};
 use work::counted::counted;
-use work::{Work, WorkStep};
 
 // The answer of the session that the call acts on, in its place.
-pub fn placed(work: Work, y: HeldStep) -> WorkStep
-    ensures { result ≡ placed_of work y }
+pub fn placed(work: Work, answer: Result<Held, Refusal>) -> Result<Work, Refusal>
+    ensures { (y : HeldStep) → AnswersHeld answer y → Answers result (placed work y) }
 {
-    let held = y.held;
-    WorkStep {
-        number: y.number,
-        work: with_addressed(work, held),
-    }
+    let held = answer?;
+    Ok(with_addressed(work, held))
 }
 
 impl Session {
     // Two models: 23, 1 to 4.
-    pub fn load(self, p: u32, n: u32, t1: &[Word], t2: &[Word]) -> Step
-        ensures { result ≡ load_of self p n t1.now t2.now }
+    pub fn load(self, p: u32, n: u32, t1: &[Word], t2: &[Word]) -> Result<Session, Refused>
+        ensures { step_of result ≡ load self p n t1.now t2.now }
     {
-        let work = self.work;
-        let x = counted(work, self.ledger.count);
-        let found = x.work;
-        self.step_with(
-            x.valid,
-            placed(found, load_held(addressed(found), p, n, t1, t2)),
-        )
+        let x = counted(self.work, self.ledger.count);
+        let held = load_held(addressed(x.work), p, n, t1, t2);
+        self.step_with(x.valid, placed(x.work, held))
     }
 
     // A pair that the checker accepts: 21, 24, 3, 4, 6, 7, 8.
-    pub fn propose(self, s: &[Word], r: &[Word]) -> Step
-        ensures { result ≡ propose_of self s.now r.now }
+    pub fn propose(self, s: &[Word], r: &[Word]) -> Result<Session, Refused>
+        ensures { step_of result ≡ propose self s.now r.now }
     {
-        let work = self.work;
-        let x = counted(work, self.ledger.count);
-        let found = x.work;
-        self.step_with(x.valid, placed(found, propose_held(addressed(found), s, r)))
+        let x = counted(self.work, self.ledger.count);
+        let held = propose_held(addressed(x.work), s, r);
+        self.step_with(x.valid, placed(x.work, held))
     }
 
     // The finder's pair: 21, 24, 5, 6, 7.
-    pub fn find(self) -> Step
-        ensures { result ≡ find_of self }
+    pub fn find(self) -> Result<Session, Refused>
+        ensures { step_of result ≡ find self }
     {
-        let work = self.work;
-        let x = counted(work, self.ledger.count);
-        let found = x.work;
-        self.step_with(x.valid, placed(found, find_held(addressed(found))))
+        let x = counted(self.work, self.ledger.count);
+        let held = find_held(addressed(x.work));
+        self.step_with(x.valid, placed(x.work, held))
     }
 }

@@ -10,12 +10,15 @@ pub mod holding;
 mod report;
 mod tables;
 
-ghost use Rattle.std.specs.Prelude.{◌≡◌};
-ghost use Rattle.session.specs.Session.{new_session, valid_session, step_with, clear as clear_of};
+ghost use Rattle.std.specs.Prelude.{◌≡◌, Ok};
+ghost use Rattle.work.specs.Step.{WorkStep, Answers};
+ghost use Rattle.session.specs.Session.{new_session, valid_session, step_with, clear};
+ghost use Rattle.session.specs.Step.{step_of};
 
 use ledger::Ledger;
+use refusal::Refusal;
+use work::Work;
 use work::counted::counted;
-use work::{Work, WorkStep};
 
 // All but the ledger, and the ledger with the conversions that succeeded and the tables that were ended.
 #[derive(Clone, Copy)]
@@ -24,10 +27,10 @@ pub struct Session {
     pub ledger: Ledger,
 }
 
-// A call's answer: 0 or the number of the refusal, and the next session.
+// What a refused call gives: why, and the session that was taken, as it came.
 #[derive(Clone, Copy)]
-pub struct Step {
-    pub number: u32,
+pub struct Refused {
+    pub refusal: Refusal,
     pub session: Session,
 }
 
@@ -43,59 +46,42 @@ impl Session {
     pub fn new() -> Session
         ensures { result ≡ new_session }
     {
-        let work = Work::new();
-        let none = Ledger::new();
         Session {
-            work: work,
-            ledger: none,
+            work: Work::new(),
+            ledger: Ledger::new(),
         }
     }
 
     // The answer of a call that changes all but the ledger: the next session, or the session that was taken.
-    fn step_with(self, valid: bool, y: WorkStep) -> Step
+    fn step_with(self, valid: bool, answer: Result<Work, Refusal>) -> Result<Session, Refused>
         requires { valid ≡ valid_session self }
-        ensures { result ≡ step_with self y }
+        ensures { (y : WorkStep) → Answers answer y → step_of result ≡ step_with self y }
     {
-        if y.number != 0 {
-            return Step {
-                number: y.number,
+        match answer {
+            Ok(work) if valid => Ok(Session { work, ..self }),
+            Ok(work) => Ok(Session {
+                work,
+                ledger: Ledger::new(),
+            }),
+            Err(refusal) => Err(Refused {
+                refusal,
                 session: self,
-            };
-        }
-        let work = y.work;
-        if !valid {
-            let none = Ledger::new();
-            let made = Session {
-                work: work,
-                ledger: none,
-            };
-            return Step {
-                number: 0,
-                session: made,
-            };
-        }
-        let ledger = self.ledger;
-        let next = Session {
-            work: work,
-            ledger: ledger,
-        };
-        Step {
-            number: 0,
-            session: next,
+            }),
         }
     }
 
     // Empty, and no table is open; with the records. It never refuses.
-    pub fn clear(self) -> Step
-        ensures { result ≡ clear_of self }
+    pub fn clear(self) -> Session
+        ensures { step_of (Ok result) ≡ clear self }
     {
-        let work = self.work;
-        let x = counted(work, self.ledger.count);
+        let x = counted(self.work, self.ledger.count);
         let empty = Work::new();
-        let answer = WorkStep {
-            number: 0,
+        if !x.valid {
+            return Session::new();
+        }
+        Session {
             work: empty,
-        };
-        self.step_with(x.valid, answer)
+            ..self
+        }
     }
 }

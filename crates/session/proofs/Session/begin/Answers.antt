@@ -1,5 +1,5 @@
 -- The table is opened by what the session counts as.
-use Rattle.session.specs.declared.Step.{Step}
+use Rattle.session.specs.Step.{Step}
 use Rattle.session.proofs.Calls.{begin_answers, held_valid}
 use Rattle.session.proofs.CountsAs.{valid_is, work_is, count_is}
 use Rattle.session.proofs.Session.begin.Goals as goal
@@ -11,4 +11,5 @@ pub step_with-requires : goal.step_with-requires
 step_with-requires c = search valid_is
 
 pub returns : goal.returns
-returns c = search (begin_answers (λ (y : Step). y), work_is, count_is)
+returns c =
+    begin_answers (λ (y : Step). y) _ _ _ (work_is _ _ c.counted-x.ensures) _ (count_is _ _ c.counted-x.ensures) _ (c.step_with.ensures _ c.begin.ensures)

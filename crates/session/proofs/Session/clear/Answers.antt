@@ -1,11 +1,10 @@
--- The answer of a call that changes all but the ledger.
-use Rattle.session.specs.declared.Step.{Step}
-use Rattle.session.proofs.Calls.{clear_answers}
+-- By whether the session counts as itself.
+use Rattle.session.proofs.Answer.{cleared_new, cleared}
 use Rattle.session.proofs.CountsAs.{valid_is}
 use Rattle.session.proofs.Session.clear.Goals as goal
 
-pub step_with-requires : goal.step_with-requires
-step_with-requires c = search valid_is
+pub returns-then-not-x : goal.returns-then-not-x
+returns-then-not-x c = cleared_new c.args.self _ (valid_is c.args.self _ c.counted-x.ensures) c.if-not-x.true _ c.new.ensures
 
 pub returns : goal.returns
-returns c = search (clear_answers (λ (y : Step). y))
+returns c = cleared c.args.self _ (valid_is c.args.self _ c.counted-x.ensures) c.if-not-x.false _ c.new-empty.ensures

@@ -1,9 +1,9 @@
--- By the number: where it is 0 the session counts as itself, and the ledger has room.
+-- Where nothing is refused the session counts as itself, and the ledger has room.
 use Rattle.session.proofs.Answer.{record_refused, record_next}
 use Rattle.session.proofs.Session.record_with.Goals as goal
 
-pub returns-then-y-ne0 : goal.returns-then-y-ne0
-returns-then-y-ne0 c = search record_refused
+pub returns-in-Ok : goal.returns-in-Ok
+returns-in-Ok c = λ y h. record_next _ y _ h _ c.in-Ok.is c.requires _ c.add-ledger.ensures
 
-pub returns : goal.returns
-returns c = search record_next
+pub returns-in-Err : goal.returns-in-Err
+returns-in-Err c = λ y h. record_refused _ y _ h _ c.in-Err.is
