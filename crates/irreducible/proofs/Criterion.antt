@@ -26,7 +26,7 @@ use Rattle.quotient.proofs.Ring.{residue_ring, x_residue}
 use Rattle.quotient.proofs.Substitution.{Homomorphism, homomorphism_power, homomorphism_zero, evaluate_of_x}
 use Rattle.quotient.proofs.FieldModulus.{has_inverse, inverse_of}
 use Rattle.quotient.proofs.Units.{Invertible, nonzero_invertible}
-use Rattle.irreducible.specs.Rabin.{conjugate_of_x, difference, Rabin}
+use Rattle.irreducible.specs.Rabin.{conjugate_of_x, difference, Passes, Rabin}
 use Rattle.irreducible.proofs.Differences.{conjugate_of_x_is, difference_is}
 use Rattle.irreducible.proofs.PeriodOfX.{no_lower_period}
 
@@ -67,6 +67,7 @@ module _ {p n : ℕ} {t : List ℕ} (prime : Prime p) (wt : Words p (suc n) t) w
         inverse_at (suc n / q) some (div-lt_self (omega arith) h.0)
 
     pub irreducible_rabin : Rabin p t
+    unfolding Passes
     irreducible_rabin =
         let size : length t ≡ suc n = words_length wt in
         record {
@@ -118,7 +119,7 @@ module _ {p n : ℕ} {t : List ℕ} (prime : Prime p) (wt : Words p (suc n) t) w
 
       -- the degree of D divides n/q for a prime q that divides n
       pub contradiction : ⊥
-      unfolding residue_field
+      unfolding residue_field Passes
       contradiction =
           let (q, h, divides_n, f, quotient) = prime_quotient (suc m) (suc n) less period_is in
           let inverse : HasInverse p t (difference p t (suc n / q)) =

@@ -16,7 +16,7 @@ conjugate_of_x p t k = conjugate p t (residue_of_x p t) k
 unfoldable pub difference : ℕ → List ℕ → ℕ → List ℕ
 difference p t k = sum p (conjugate_of_x p t k) (scale p (p - 1) (residue_of_x p t))
 
-abbrev pub Passes : ℕ → ℕ → List ℕ → ℕ → Type 0
+unfoldable pub Passes : ℕ → ℕ → List ℕ → ℕ → Type 0
 Passes p n t q = n % q ≡ 0 → HasInverse p t (difference p t (n / q))
 
 pub record Rabin (p : ℕ) (t : List ℕ) : Type 0 where

@@ -1,8 +1,8 @@
 // Rabin's test.
-ghost use Rattle.std.specs.Prelude.{not, ◌≡◌, ◌^◌, ◌≤◌, ◌<◌, take};
-ghost use Rattle.algebra.specs.Lists.{All, equal};
+ghost use Rattle.std.specs.List.{All};
+ghost use Rattle.std.specs.Prelude.{not, ◌≡◌, ◌^◌, ◌≤◌, ◌<◌, ◌↔◌, IsTrue, take};
+ghost use Rattle.algebra.specs.Lists.{equal};
 ghost use Rattle.algebra.specs.Prime.{Prime};
-ghost use Rattle.algebra.specs.Search.{Decides};
 ghost use Rattle.array.specs.Array.{Holds};
 ghost use Rattle.matrix.specs.Matrix.{Frobenius};
 ghost use Rattle.modular.specs.Barrett.{Reduces};
@@ -35,7 +35,7 @@ fn passes(d: Barrett, n: usize, t: &[u64; 16], m: &[u64; 256], q: usize) -> bool
     requires prime { Prime d.p }
     requires reduces { Reduces d × (1 ≤ n) × (n ≤ 16) × (0 < q) }
     requires holds { Holds d.p n t.now × Frobenius d.p n (take n t.now) m.now }
-    ensures { Decides result (Passes d.p n (take n t.now) q) }
+    ensures { IsTrue result ↔ Passes d.p n (take n t.now) q }
 {
     if n % q != 0 {
         return true;
@@ -49,16 +49,11 @@ fn passes(d: Barrett, n: usize, t: &[u64; 16], m: &[u64; 256], q: usize) -> bool
 fn passes_each(d: Barrett, n: usize, t: &[u64; 16], m: &[u64; 256], numbers: &[usize]) -> bool
     requires prime { Prime d.p }
     requires reduces { Reduces d × (1 ≤ n) × (n ≤ 16) }
-    requires all { All (◌<◌ 0) numbers.now }
+    requires all { All (λ q. 0 < q) numbers.now }
     requires holds { Holds d.p n t.now × Frobenius d.p n (take n t.now) m.now }
-    ensures { Decides result (All (Passes d.p n (take n t.now)) numbers.now) }
+    ensures { IsTrue result ↔ All (Passes d.p n (take n t.now)) numbers.now }
 {
-    for q in numbers {
-        if !passes(d, n, t, m, *q) {
-            return false;
-        }
-    }
-    true
+    numbers.iter().all(|q| passes(d, n, t, m, *q))
 }
 
 // Whether T satisfies Rabin's conditions, and so has no monic divisor of degree 1 to n − 1.

@@ -1,14 +1,15 @@
 -- The parts of Rabin's test together decide whether T has a divisor of degree 1 to n − 1: Rabin's criterion, where the primes up to 16 are enough.
+use Rattle.std.specs.List as List
+use Rattle.std.proofs.Common.{◌↔◌, IsTrue}
 use mathlib.Core.Path.{◌≡◌, refl, sym, ap, subst, ◌∙◌}
 use mathlib.Core.Bool.{Bool, true, false, not, false≢true}
-use mathlib.Core.List.{List}
+use mathlib.Core.List.{List, [], ◌∷◌}
 use Prim.Native.Nat.{ℕ, zero, suc, ◌/◌, ◌%◌, ◌≤◌}
 use native.Mathlib.Omega.{arith}
 use lib.ListN.{length, take}
 use borrow.Author.Tests.{not-true, not-false}
 use Rattle.algebra.specs.Lists.{All, equal}
 use Rattle.algebra.specs.Prime.{Prime}
-use Rattle.algebra.specs.Search.{Decides}
 use Rattle.algebra.proofs.Equality.{equal_of, of_equal}
 use Rattle.algebra.proofs.Lists.{all_member, member_all}
 use Rattle.array.specs.Array.{Holds}
@@ -21,6 +22,17 @@ use Rattle.quotient.proofs.Decision.{test_has_divisor, test_irreducible}
 use Rattle.irreducible.specs.Rabin.{conjugate_of_x, difference, Passes, Rabin}
 use Rattle.irreducible.proofs.Criterion.{irreducible_rabin, rabin_irreducible}
 use Rattle.irreducible.proofs.rabin.Primes.{primes, prime_listed, listed_prime, divisor_small}
+
+-- of each number of a list, by its place
+
+of_places : (P : ℕ → Type 0) (xs : List ℕ) → List.All P xs → All P xs
+of_places P [] h = tt
+of_places P (x ∷ xs) h = (h 0 x (omega arith), of_places P xs (λ k d l. h (suc k) d (omega arith)))
+
+at_places : (P : ℕ → Type 0) (xs : List ℕ) → All P xs → List.All P xs
+at_places P [] h k d l = absurd (omega arith)
+at_places P (x ∷ xs) h zero d l = h.0
+at_places P (x ∷ xs) h (suc k) d l = at_places P xs h.1 k d (omega arith)
 
 module _ (p n : ℕ) (t : List ℕ) (prime : Prime p) (some : 1 ≤ n) (short : n ≤ 16) (ht : Holds p n t) where
   abbrev T : List ℕ
@@ -57,6 +69,7 @@ module _ (p n : ℕ) (t : List ℕ) (prime : Prime p) (some : 1 ≤ n) (short : 
   module _ (b : Bool) (e : b ≡ equal (conjugate_of_x p T n) (residue_of_x p T)) (f : not b ≡ false) where
     -- the primes up to 16 are enough
     rabin_passes : All (Passes p n T) primes → Rabin p T
+    unfolding Passes
     rabin_passes h =
         record {
           fixed = ap (conjugate_of_x p T) size ∙ of_equal (conjugate_of_x p T n) (residue_of_x p T) (sym e ∙ not-false b f);
@@ -67,19 +80,20 @@ module _ (p n : ℕ) (t : List ℕ) (prime : Prime p) (some : 1 ≤ n) (short : 
         }
 
     passes_rabin : Rabin p T → All (Passes p n T) primes
+    unfolding Passes
     passes_rabin rabin =
         member_all (Passes p n T) primes (λ q m here.
         subst (λ k. HasInverse p T (difference p T (k / q))) size (rabin.inverses q (listed_prime q m) (rw size here)))
 
-    pub passes_decide : (r : Bool) → Decides r (All (Passes p n T) primes) → r ≡ not (has_divisor p T)
+    pub passes_decide : (r : Bool) → (IsTrue r ↔ List.All (Passes p n T) primes) → r ≡ not (has_divisor p T)
     passes_decide true d = by_test (has_divisor p T) refl
       where
         by_test : (c : Bool) → has_divisor p T ≡ c → true ≡ not (has_divisor p T)
-        by_test true g = absurd (of_rabin ht.words (rabin_passes (d.if_true refl)) (test_has_divisor prime.0 ht.words g))
+        by_test true g = absurd (of_rabin ht.words (rabin_passes (of_places (Passes p n T) primes (d.0 refl))) (test_has_divisor prime.0 ht.words g))
         by_test false g = sym (ap not g)
     passes_decide false d = by_test (has_divisor p T) refl
       where
         by_test : (c : Bool) → has_divisor p T ≡ c → false ≡ not (has_divisor p T)
         by_test true g = sym (ap not g)
         by_test false g =
-            absurd (d.if_false refl (passes_rabin (rabin_of ht.words (test_irreducible prime.0 ht.words g))))
+            absurd (false≢true (d.1 (at_places (Passes p n T) primes (passes_rabin (rabin_of ht.words (test_irreducible prime.0 ht.words g))))))
