@@ -1,3 +1,2 @@
 -- What the proofs of `rows` use.
-mod Counters
 mod Loops

@@ -1,17 +1,18 @@
 -- The converting call's number, test by test, the products that are written, and what the list holds after the call.
-use mathlib.Core.Path.{◌≡◌, sym, ap, ◌∙◌}
-use mathlib.Core.Bool.{Bool, true, false, not, ◌&&◌, and-true}
+use mathlib.Core.Path.{◌≡◌, refl, sym, ap, ◌∙◌}
+use mathlib.Core.Bool.{Bool, true, false, not, and-true, or-false}
 use mathlib.Core.List.{List, [], ◌∷◌}
 use Prim.Native.Nat.{ℕ, ◌*◌, ◌/◌, ◌^◌, ◌≤◌}
 use lib.Dec.{eqb}
 use lib.ListN.{length}
 use Rattle.algebra.specs.Lists.{all}
-use Rattle.array.specs.Words.{all_below}
 use Rattle.array.proofs.Words.{words_length}
 use Rattle.matrix.specs.Matrix.{Rows, matrix_product}
-use Rattle.modular.specs.Prime.{is_prime}
-use Rattle.refusal.specs.Refusal.{refuse, is_degree, bad_prime, bad_degree, bad_length, bad_word}
+use Rattle.refusal.specs.Number.{number}
+use Rattle.refusal.specs.Refusal.{refuse, refuse_sent_or, bad_prime, bad_degree, bad_length, bad_word}
+use Rattle.refusal.specs.declared.number.Refusal.{Refusal}
 use Rattle.refusal.proofs.Order.{Follows, passed, follows_next, follows_stays, follows_passes, refuse_none, degree_given}
+use Rattle.refusal.proofs.Refused.{refused}
 use Rattle.refusal.proofs.Written.{output_new, output_old}
 use Rattle.table.specs.Table.{each_group, refuse_table, table_number}
 use Rattle.table.proofs.Convertible.{table_given}
@@ -29,42 +30,38 @@ three_follow : (p n rest : ℕ) (m : List ℕ)
     (refuse 1 (bad_prime p) (refuse 2 (bad_degree n) (refuse 3 (bad_length (n * n) (m ∷ [])) rest)))
 three_follow p n rest m = follows_next 0 (bad_prime p) (follows_next 1 (bad_degree n) (follows_next 2 (bad_length (n * n) (m ∷ [])) passed))
 
--- w is the length that is asked for
-module _ (p n w model : ℕ) (m table out : List ℕ) (prime degree : Bool) (asked : w ≡ n * n) (is_prime_lem : prime ≡ is_prime p) (is_degree_lem : degree ≡ is_degree n)
-    (e : model ≡ refuse 1 (not prime) (refuse 2 (not degree) (refuse 3 (not (eqb (length m) w)) (refuse 4 (not true) 0)))) where
-  model_is : model ≡ refuse 1 (bad_prime p) (refuse 2 (bad_degree n) (refuse 3 (bad_length (n * n) (m ∷ [])) 0))
-  unfolding bad_prime bad_degree bad_length all
-  model_is = rw (e, is_prime_lem, is_degree_lem, asked, and-true (eqb (length m) (n * n)))
+module _ (p n : ℕ) (m table out : List ℕ) (square : Bool) (size : square ≡ eqb (length m) (n * n)) where
+  by_lists : refuse_sent_or (not square) p n [] [] 0 ≡ refuse 1 (bad_prime p) (refuse 2 (bad_degree n) (refuse 3 (bad_length (n * n) (m ∷ [])) 0))
+  unfolding bad_length bad_word all
+  by_lists = rw (size, and-true (eqb (length m) (n * n)), or-false (not (eqb (length m) (n * n))))
 
-  pub model_refused : (model ≡ 0 → ⊥) → model ≡ by_matrix_number p n m table out
+  pub model_refused : (e : Refusal) → number e ≡ refuse_sent_or (not square) p n [] [] 0 → number e ≡ by_matrix_number p n m table out
   unfolding by_matrix_number
-  model_refused h = follows_stays (three_follow p n _ m) model model_is h
+  model_refused e h = follows_stays (three_follow p n _ m) (number e) (h ∙ by_lists) (refused e)
 
-  module _ (z : model ≡ 0) where
+  module _ (model : 0 ≡ refuse_sent_or (not square) p n [] [] 0) where
     pub degree_positive : 1 ≤ n
     degree_positive =
-        let (prime, h2) = refuse_none 0 (bad_prime p) _ (sym model_is ∙ z) in
+        let (prime, h2) = refuse_none 0 (bad_prime p) _ (sym (model ∙ by_lists)) in
         let (degree, h3) = refuse_none 1 (bad_degree n) _ h2 in
         (degree_given n degree).0
 
     after_model : by_matrix_number p n m table out ≡ refuse_table n table out (refuse 4 (bad_word p (m ∷ table ∷ [])) 0)
     unfolding by_matrix_number
-    after_model = follows_passes (three_follow p n _ m) (sym model_is ∙ z)
+    after_model = follows_passes (three_follow p n _ m) (sym (model ∙ by_lists))
 
-    module _ (lengths : ℕ) (f : lengths ≡ refuse_table n table out 0) where
-      pub lengths_refused : (lengths ≡ 0 → ⊥) → lengths ≡ by_matrix_number p n m table out
-      lengths_refused h = follows_stays (lengths_follow n _ table out) lengths f h ∙ sym after_model
+    pub lengths_refused : (e : Refusal) → number e ≡ refuse_table n table out 0 → number e ≡ by_matrix_number p n m table out
+    lengths_refused e h = follows_stays (lengths_follow n _ table out) (number e) h (refused e) ∙ sym after_model
 
-      module _ (y : lengths ≡ 0) (b c : Bool) (g : b ≡ (all_below p table && true)) (k : c ≡ (all_below p m && b)) where
-        words_decide : by_matrix_number p n m table out ≡ refuse 4 (not c) 0
-        unfolding bad_word all
-        words_decide = after_model ∙ follows_passes (lengths_follow n _ table out) (sym f ∙ y) ∙ rw (k, g)
+    module _ (lengths : 0 ≡ refuse_table n table out 0) (b : Bool) (below : bad_word p (m ∷ table ∷ []) ≡ not b) where
+      words_decide : by_matrix_number p n m table out ≡ refuse 4 (not b) 0
+      words_decide = after_model ∙ follows_passes (lengths_follow n _ table out) (sym lengths) ∙ ap (λ x. refuse 4 x 0) below
 
-        pub words_below : c ≡ true → 0 ≡ by_matrix_number p n m table out
-        words_below h = rw (words_decide, h)
+      pub words_below : b ≡ true → 0 ≡ by_matrix_number p n m table out
+      words_below h = rw (words_decide, h)
 
-        pub words_above : c ≡ false → 4 ≡ by_matrix_number p n m table out
-        words_above h = rw (words_decide, h)
+      pub words_above : b ≡ false → 4 ≡ by_matrix_number p n m table out
+      words_above h = rw (words_decide, h)
 
 -- the products, by an array that holds the matrix and the divisor q that is p
 
@@ -100,11 +97,11 @@ module _ (p n : ℕ) (m table out : List ℕ) (h : by_matrix_number p n m table 
 
 -- the list after the call
 
-module _ (p n number : ℕ) (m table out : List ℕ) (e : number ≡ by_matrix_number p n m table out) where
-  pub image_new : number ≡ 0 → (after : List ℕ) → after ≡ by_matrix p n m table → after ≡ by_matrix_output p n m table out
+module _ (p n : ℕ) (m table out : List ℕ) where
+  pub image_new : 0 ≡ by_matrix_number p n m table out → (after : List ℕ) → after ≡ by_matrix p n m table → after ≡ by_matrix_output p n m table out
   unfolding by_matrix_output
-  image_new h after f = output_new number (by_matrix_number p n m table out) (by_matrix p n m table) out after e h f
+  image_new h after f = output_new 0 (by_matrix_number p n m table out) (by_matrix p n m table) out after h refl f
 
-  pub image_kept : (number ≡ 0 → ⊥) → out ≡ by_matrix_output p n m table out
+  pub image_kept : (e : Refusal) → number e ≡ by_matrix_number p n m table out → out ≡ by_matrix_output p n m table out
   unfolding by_matrix_output
-  image_kept h = output_old number (by_matrix_number p n m table out) (by_matrix p n m table) out e h
+  image_kept e h = output_old (number e) (by_matrix_number p n m table out) (by_matrix p n m table) out h (refused e)

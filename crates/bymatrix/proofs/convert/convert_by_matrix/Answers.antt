@@ -2,8 +2,8 @@
 use Rattle.bymatrix.proofs.convert.Laws.{image_new, image_kept}
 use Rattle.bymatrix.proofs.convert.convert_by_matrix.Goals as goal
 
-pub returns-then-number-eq0-clause-out_after : goal.returns-then-number-eq0-clause-out_after
-returns-then-number-eq0-clause-out_after c = search image_new
+pub returns-in_err-check-clause-out_after : goal.returns-in_err-check-clause-out_after
+returns-in_err-check-clause-out_after c = image_kept _ _ _ _ _ _ c.in_err-check.ensures
 
-pub returns-else-number-eq0-clause-out_after : goal.returns-else-number-eq0-clause-out_after
-returns-else-number-eq0-clause-out_after c = search image_kept
+pub returns-clause-out_after : goal.returns-clause-out_after
+returns-clause-out_after c = image_new _ _ _ _ _ c.in_ok-check.ensures _ c.convert_table.ensures

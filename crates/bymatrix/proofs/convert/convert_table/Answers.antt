@@ -15,8 +15,8 @@ convert_groups-requires-clause-reduces c = (search rules, search ready_low, sear
 pub convert_groups-requires-clause-rows : goal.convert_groups-requires-clause-rows
 convert_groups-requires-clause-rows c = search ready_rows
 
-pub convert_groups-requires-clause-out_value : goal.convert_groups-requires-clause-out_value
-convert_groups-requires-clause-out_value c = search ready_table
+pub convert_groups-requires-clause-convertible : goal.convert_groups-requires-clause-convertible
+convert_groups-requires-clause-convertible c = search ready_table
 
 pub returns : goal.returns
 returns c = search products_written

@@ -1,15 +1,17 @@
-use Rattle.bymatrix.proofs.rows.Counters.{counters_start, next_row, next_column}
-use Rattle.bymatrix.proofs.rows.Loops.{load_starts, load_turn, load_done}
+use Rattle.bymatrix.proofs.rows.Loops.{load_starts, load_begins, load_turn, load_row, load_done}
 use Rattle.bymatrix.proofs.rows.load_rows.Goals as goal
 
-pub loop-k-init : goal.loop-k-init
-loop-k-init c = (search counters_start, search load_starts)
+pub loop-i-init : goal.loop-i-init
+loop-i-init c = search load_starts
 
-pub loop-k-preserved-then-j-n : goal.loop-k-preserved-then-j-n
-loop-k-preserved-then-j-n c = (search next_row, search load_turn)
+pub loop-j-init : goal.loop-j-init
+loop-j-init c = search load_begins
 
-pub loop-k-preserved : goal.loop-k-preserved
-loop-k-preserved c = (search next_column, search load_turn)
+pub loop-j-preserved : goal.loop-j-preserved
+loop-j-preserved c = search load_turn
+
+pub loop-i-preserved : goal.loop-i-preserved
+loop-i-preserved c = search load_row
 
 pub returns : goal.returns
 returns c = search load_done
