@@ -14,10 +14,10 @@ fn trace(d: Barrett, n: usize, k: usize, last: u64, t: &[u64; 16], s: &[u64; 16]
     requires holds { Holds d.p n t.now × Holds (2 * d.p + 1) k s.now }
     ensures { result ≤ 2 * d.p }
 {
-    let first = n - k;
-    let mut sum = times(k as u64 + 1, t[first - 1]);
-    for j in 0..k.saturating_sub(1) {
-        sum += times(s[j], t[first + j]);
+    let first = n - k - 1;
+    let mut sum = times(k as u64 + 1, t[first]);
+    for j in 1..k {
+        sum += times(s[j - 1], t[first + j]);
     }
     d.opposite(sum + times(last, t[n - 1]))
 }

@@ -20,7 +20,7 @@ module _ (p n k : ℕ) (t : List ℕ) (few : p ≤ 2 ^ 20) (h : Holds p n t) (l 
   pub first_low : get_or t (n - k - 1) 0 < 2 ^ 32
   first_low = omega (arith, first_below)
 
-  module _ (first j end : ℕ) (e : first ≡ n - k) (before : end ≡ k - 1) (lj : j < end) where
+  module _ (first j : ℕ) (e : first ≡ n - k - 1) (lj : j < k) where
     pub word_below : get_or t (first + j) 0 < p
     word_below = holds_word h (first + j) (omega arith)
 
@@ -33,19 +33,19 @@ module _ (p n k : ℕ) (t : List ℕ) (few : p ≤ 2 ^ 20) (h : Holds p n t) (l 
   pub last_low : get_or t (n - 1) 0 < 2 ^ 32
   last_low = omega (arith, last_below)
 
--- the traces that are read: in turn j of k − 1, word j
-module _ (p k j end : ℕ) (s : List ℕ) (few : p ≤ 2 ^ 20) (h : Holds (2 * p + 1) k s) (before : end ≡ k - 1) (l : j < end) where
-  pub earlier_small : get_or s j 0 ≤ 2 * p
-  earlier_small = trace_small p k j s h (omega arith)
+-- the traces that are read
+module _ (p k j : ℕ) (s : List ℕ) (few : p ≤ 2 ^ 20) (h : Holds (2 * p + 1) k s) (l : j < k) where
+  pub earlier_small : get_or s (j - 1) 0 ≤ 2 * p
+  earlier_small = trace_small p k (j - 1) s h (omega arith)
 
-  pub earlier_low : get_or s j 0 < 2 ^ 32
+  pub earlier_low : get_or s (j - 1) 0 < 2 ^ 32
   earlier_low = omega (arith, earlier_small)
 
 pub record Partial (p j sum : ℕ) : Type 0 where
   pub few : sum ≤ (16 + 2 * j) * (p * p)
 
 -- the product of k + 1 with a word
-pub partial_start : (p n k b r : ℕ) → n ≤ 16 → k < n → b < p → r ≡ (k + 1) * b → Partial p 0 r
+pub partial_start : (p n k b r : ℕ) → n ≤ 16 → k < n → b < p → r ≡ (k + 1) * b → Partial p 1 r
 partial_start p n k b r short l below e = record { few = omega (arith, e, multiple_small p (k + 1) b (omega arith) below) }
 
 module _ (p j sum a b r : ℕ) (s : Partial p j sum) (e : r ≡ a * b) (la : a ≤ 2 * p) (lb : b < p) where
@@ -54,7 +54,7 @@ module _ (p j sum a b r : ℕ) (s : Partial p j sum) (e : r ≡ a * b) (la : a �
       let h : a * b ≤ 2 * (p * p) = product_small p a b la lb in
       record { few = omega (arith, s.few) }
 
-  module _ (n k end : ℕ) (short : n ≤ 16) (lk : k < n) (before : end ≡ k - 1) (lj : j ≤ end) where
+  module _ (n k : ℕ) (short : n ≤ 16) (lk : k < n) (lj : j ≤ k + 1) where
     pub partial_few : sum + r ≤ 64 * (p * p)
     partial_few =
         let turns : 16 + 2 * (j + 1) ≤ 64 = omega arith in

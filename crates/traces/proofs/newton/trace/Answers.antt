@@ -6,7 +6,7 @@ pub times-sum-requires : goal.times-sum-requires
 times-sum-requires c = (search rules, search first_low)
 
 pub loop-j-init : goal.loop-j-init
-loop-j-init c = search (partial_start, first_below)
+loop-j-init c = (search rules, search (partial_start, first_below))
 
 pub times-sum-requires-in-loop-j : goal.times-sum-requires-in-loop-j
 times-sum-requires-in-loop-j c = (search earlier_low, search word_low)
@@ -15,7 +15,7 @@ pub overflow_add-sum : goal.overflow_add-sum
 overflow_add-sum c = search (partial_fits, earlier_small, word_below)
 
 pub loop-j-preserved : goal.loop-j-preserved
-loop-j-preserved c = search (partial_turn, earlier_small, word_below)
+loop-j-preserved c = (search rules, search (partial_turn, earlier_small, word_below))
 
 pub times-requires : goal.times-requires
 times-requires c = (search rules, search last_low)

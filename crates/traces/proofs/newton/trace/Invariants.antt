@@ -1,6 +1,7 @@
--- Before turn j the sum has the first j products with a trace; the last one joins it at the end.
+-- Before turn j the sum has the first j products; the last one joins it at the end.
+use Prim.Native.Nat.{◌+◌, ◌≤◌}
 use Rattle.traces.proofs.newton.TraceLoop.{Partial}
 use Rattle.traces.proofs.newton.trace.Given as goal
 
 abbrev pub invariant-loop-j : goal.invariant-loop-j
-invariant-loop-j l = Partial l.d.p l.j l.sum
+invariant-loop-j l = (l.j ≤ l.k + 1) × Partial l.d.p l.j l.sum
