@@ -12,7 +12,7 @@ use array::copy::{load, store};
 use refusal::Refusal;
 use refusal::sent::sent;
 
-// The pair, or the first of 5 to 7 that applies, for lists to which none of the refusals 1 to 4 applies.
+// The pair, or the first of 5 to 7 that applies, for lists to which none of 1 to 4 applies.
 fn answer(p: u32, n: u32, t1: &[Word], t2: &[Word]) -> Result<Pair, Refusal>
     requires { Models p n t1.now t2.now }
     ensures number { number_of result ≡ refuse_find p n t1.now t2.now }
@@ -55,7 +55,7 @@ pub fn find(
     ensures s_after { s.new ≡ find_output_s p n t1.now t2.now s.old r.old }
     ensures r_after { r.new ≡ find_output_r p n t1.now t2.now s.old r.old }
 {
-    // The arrays have names, since Rattle proves no call with both lists and the `&mut` ones in an array written inside it.
+    // The arrays have names: with them written in the call, the borrow checker covers no proof.
     let read = [t1, t2];
     let lists = [t1, t2, s, r];
     sent(p, n, &lists, &read)?;

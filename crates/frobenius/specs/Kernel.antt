@@ -2,10 +2,12 @@
 --   Stretched p n z m u         u is not 0, and the matrix m takes it to z·u
 --   TrivialKernel p n t z       only 0 satisfies u^p = z·u modulo T
 --   Kernel p n t z v            the array v holds a residue that satisfies it and is not 0
---   Divided p n t v u b         the array u holds v divided by its first coefficient that is not zero, and its n-th power modulo T is the constant b
+--   Divided p n t v u b         the array u holds v divided by its first coefficient that is not
+--                               zero, and its n-th power modulo T is the constant b
 --   NoConstant p n t v          the n-th power of that quotient is no constant
---   EigenvectorFound p n t z v b   T has no monic divisor of degree 1 to n − 1, the array v holds an eigenvector whose first coefficient that is
---                                  not zero is 1, and b is its n-th power
+--   EigenvectorFound p n t z v b   T has no monic divisor of degree 1 to n − 1, the array v holds
+--                                  an eigenvector whose first coefficient that is not zero is 1,
+--                                  and b is its n-th power
 use Rattle.std.specs.Prelude.{◌≡◌, false, List, ℕ, ◌<◌, take}
 use Rattle.array.specs.Array.{Holds}
 use Rattle.modular.specs.Inverse.{inverse}

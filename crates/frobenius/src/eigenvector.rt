@@ -20,7 +20,7 @@ pub struct Normalised {
     pub constant: u64,
 }
 
-// A vector v ≠ 0 divided by its first word that is not 0, and its n-th power, if that is a constant.
+// A vector v ≠ 0 divided by its first word that is not 0, and its n-th power, if it is a constant.
 fn divided(p: u64, n: usize, t: &[u64; 16], v: &[u64; 16]) -> Option<Normalised>
     requires prime { Prime p }
     requires sizes { (p ≤ 2 ^ 20) × (1 ≤ n) × (n ≤ 16) }
@@ -85,7 +85,8 @@ fn completed_square(p: u64, n: usize, t: &[u64; 16]) -> [u64; 16]
     v
 }
 
-// An eigenvector, if T has no monic divisor of degree 1 to n − 1: for n = 2 by completing the square. The array m is worked on.
+// An eigenvector, if T has no monic divisor of degree 1 to n − 1: for n = 2 by completing the
+// square. The array m is worked on.
 pub fn eigenvector(
     p: u64,
     n: usize,

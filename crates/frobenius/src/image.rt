@@ -10,9 +10,9 @@ use matrix::product::apply;
 use residue::ring::residue_of_x;
 use traces::polynomial::expression;
 
-// The polynomial P with P(a1) = X modulo T, where the columns of m are the powers of a1 modulo T, by
-// elimination on a copy of m. Where the system is singular, the powers are dependent, and nothing is
-// said of P.
+// The polynomial P with P(a1) = X modulo T, where the columns of m are the powers of a1 modulo T,
+// by elimination on a copy of m. Where the system is singular, the powers are dependent, and
+// nothing is said of P.
 fn by_elimination(p: u64, n: usize, t: &[u64; 16], m: &[u64; 256]) -> [u64; 16]
     requires prime { Prime p }
     requires sizes { (p ≤ 2 ^ 20) × (1 ≤ n) × (n ≤ 16) }

@@ -27,7 +27,8 @@ fn is_eigenvector(p: u64, n: usize, z: u64, m: &[u64; 256], v: &[u64; 16]) -> bo
     same(n, &image, &multiple)
 }
 
-// A vector other than 0 in the kernel of u ↦ u^p − z·u, if there is one, by elimination from the matrix m of u ↦ u^p. The system is written into m.
+// A vector other than 0 in the kernel of u ↦ u^p − z·u, if there is one, by elimination from the
+// matrix m of u ↦ u^p. The system is written into m.
 fn by_elimination(p: u64, n: usize, z: u64, t: &[u64; 16], m: &mut [u64; 256]) -> Option<[u64; 16]>
     requires prime { Prime p }
     requires sizes { (p ≤ 2 ^ 20) × (1 ≤ n) × (n ≤ 16) × (z < p) }
@@ -43,7 +44,8 @@ fn by_elimination(p: u64, n: usize, z: u64, t: &[u64; 16], m: &mut [u64; 256]) -
     }
 }
 
-// A vector other than 0 in the kernel of u ↦ u^p − z·u, if there is one: the resolvent, if it passes the test, else by elimination. For n < 4 elimination is as fast. The array m is worked on.
+// A vector other than 0 in the kernel of u ↦ u^p − z·u, if there is one: the resolvent, if it
+// passes the test, else by elimination. For n < 4 elimination is as fast. The array m is worked on.
 pub fn kernel(p: u64, n: usize, z: u64, t: &[u64; 16], m: &mut [u64; 256]) -> Option<[u64; 16]>
     requires prime { Prime p }
     requires sizes { (p ≤ 2 ^ 20) × (1 ≤ n) × (n ≤ 16) × (z < p) }

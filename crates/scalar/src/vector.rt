@@ -22,7 +22,7 @@ pub fn scale(p: u64, n: usize, c: u64, u: &[u64; 16]) -> [u64; 16]
     w
 }
 
-// The first word that is not 0, and 0 where there is none.
+// The first word that is not 0, and 0 where there is none: no other answer is 0.
 pub fn first_non_zero(p: u64, n: usize, u: &[u64; 16]) -> u64
     requires size { n ≤ 16 }
     requires holds { Holds p n u.now }

@@ -2,7 +2,8 @@
 --   without_constant u      u with 0 in place of its constant coefficient
 --   Differences p n t c     c is the matrix of u ↦ u^p − u on the residues modulo T, made from that of u ↦ u^p
 --   Solved p n t a v        the array v holds the solution with constant coefficient 0
---   Unsolved p n t a        where there is such a solution, T has a monic divisor of degree 1 to n − 1
+--   Unsolved p n t a        where there is such a solution, T has a monic divisor of degree 1 to
+--                           n − 1
 use Rattle.std.specs.Prelude.{◌≡◌, true, List, [], ◌∷◌, ℕ, take}
 use Rattle.array.specs.Array.{Holds}
 use Rattle.quotient.specs.DivisorTest.{has_divisor}

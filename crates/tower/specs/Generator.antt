@@ -1,6 +1,7 @@
 -- The rounds of Algorithm 4.1 on arrays.
 --   Reached p n t j a v              the arrays a and v hold a and α after j rounds
---   GeneratorFound p n t k v         T has no monic divisor of degree 1 to n − 1, and the array v holds α after k rounds
+--   GeneratorFound p n t k v   T has no monic divisor of degree 1 to n − 1, and the array v holds
+--                              α after k rounds
 use Rattle.std.specs.Prelude.{◌≡◌, false, List, ℕ, take}
 use Rattle.array.specs.Array.{padded, Holds}
 use Rattle.quotient.specs.DivisorTest.{has_divisor}

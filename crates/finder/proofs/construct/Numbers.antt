@@ -1,5 +1,5 @@
 -- The finder's number where 1 to 4 do not apply: 5 first, then 6 and 7 by the tests of the two moduli; and the sizes that the finder takes.
-use mathlib.Core.Path.{◌≡◌, refl, sym, ap, ◌∙◌}
+use mathlib.Core.Path.{◌≡◌, refl, sym, ap}
 use mathlib.Core.Bool.{Bool, true, false, not}
 use mathlib.Core.List.{List}
 use mathlib.Core.Logic.{inl, inr}

@@ -50,7 +50,8 @@ module _ (p n : ℕ) (t1 t2 : List ℕ) (m : Models p n t1 t2) where
     words =
         let (findable, first, second) = none_apply p n t1 t2 (sym found.number_is) in
         let laws : PairLaws p n t1 t2 = pair_laws p m.prime n m.degree.0 t1 t2 m.modulus1 m.modulus2 in
-        (laws.chosen_pair (laws.chosen (models_size p n t1 t2 m findable) (test_irreducible m.prime.0 m.modulus1 first) (test_irreducible m.prime.0 m.modulus2 second))).words
+        (laws.chosen_pair (laws.chosen (models_size p n t1 t2 m findable)
+        (test_irreducible m.prime.0 m.modulus1 first) (test_irreducible m.prime.0 m.modulus2 second))).words
 
     module _ (out : List ℕ) (size : length out ≡ n) where
       stores : (u w : List ℕ) → w ≡ padded u → Words p n u → Holds word_bound (length out) w
@@ -108,10 +109,12 @@ module _ (p n : ℕ) (t1 t2 s r : List ℕ) where
     unfolding find_number
     find_answered answer f = f ∙ sym (given_sent p n lists (t1 ∷ t2 ∷ []) _ sent)
 
-    pub forward_output : (answer : ℕ) → answer ≡ refuse_find p n t1 t2 → (s' : List ℕ) → s' ≡ written answer (find_s p n t1 t2) s → s' ≡ find_output_s p n t1 t2 s r
+    pub forward_output : (answer : ℕ) → answer ≡ refuse_find p n t1 t2
+        → (s' : List ℕ) → s' ≡ written answer (find_s p n t1 t2) s → s' ≡ find_output_s p n t1 t2 s r
     unfolding find_output_s
     forward_output answer f s' h = h ∙ ap (λ k. written k (find_s p n t1 t2) s) (find_answered answer f)
 
-    pub backward_output : (answer : ℕ) → answer ≡ refuse_find p n t1 t2 → (r' : List ℕ) → r' ≡ written answer (find_r p n t1 t2) r → r' ≡ find_output_r p n t1 t2 s r
+    pub backward_output : (answer : ℕ) → answer ≡ refuse_find p n t1 t2
+        → (r' : List ℕ) → r' ≡ written answer (find_r p n t1 t2) r → r' ≡ find_output_r p n t1 t2 s r
     unfolding find_output_r
     backward_output answer f r' h = h ∙ ap (λ k. written k (find_r p n t1 t2) r) (find_answered answer f)

@@ -1,15 +1,15 @@
 -- A vector that passes the test lies in the kernel of u ↦ u^p − z·u: the matrix is that of u ↦ u^p.
 use mathlib.Core.Path.{◌≡◌, sym, ap, ◌∙◌}
-use mathlib.Core.Bool.{Bool, true, false, false≢true}
+use mathlib.Core.Bool.{Bool, true}
 use mathlib.Core.List.{List}
-use Prim.Native.Nat.{ℕ, ◌%◌, ◌≤◌}
+use Prim.Native.Nat.{ℕ, ◌%◌}
 use lib.ListN.{length, take, length-map}
 use Rattle.algebra.specs.Lists.{equal, range}
 use Rattle.algebra.specs.Prime.{Prime}
 use Rattle.algebra.proofs.Equality.{of_equal}
 use Rattle.algebra.proofs.Search.{range_length}
 use Rattle.array.specs.Array.{padded, Holds, row_product}
-use Rattle.array.proofs.Padded.{array_length, front_is, holds_is, take-padded}
+use Rattle.array.proofs.Padded.{front_is, take-padded}
 use Rattle.quotient.specs.Residue.{scale}
 use Rattle.quotient.proofs.Operations.{scale_words}
 use Rattle.matrix.specs.Matrix.{matrix_product, Frobenius}
@@ -33,6 +33,7 @@ module _ (p n z : ℕ) (m v : List ℕ) (hv : Holds p n v) where
             ∙ of_equal (take n w) (take n s) (sym er ∙ e) ∙ front_is es (scale_words z hv.words);
       }
 
-pub stretched_kernel : (p n z : ℕ) (t m v : List ℕ) → Prime p → Holds p n t → Frobenius p n (take n t) m → Holds p n v → Stretched p n z m (take n v) → Kernel p n (take n t) z v
+pub stretched_kernel : (p n z : ℕ) (t m v : List ℕ) → Prime p → Holds p n t → Frobenius p n (take n t) m → Holds p n v
+    → Stretched p n z m (take n v) → Kernel p n (take n t) z v
 stretched_kernel p n z t m v prime ht frobenius hv h =
     record { holds = hv; not_zero = h.not_zero; power_is = sym (frobenius_applies prime ht.words frobenius hv.words) ∙ h.product_is }

@@ -79,13 +79,15 @@ zeros_are : (f : List ℕ) → All (λ x. x ≡ 0) f → f ≡ replicate (length
 zeros_are [] h = refl
 zeros_are (x ∷ f) h = ap₂ (λ y g. y ∷ g) (h 0 0 (omega arith)) (zeros_are f (λ k d l. h (suc k) d (omega arith)))
 
-constant_decides : (n : ℕ) (u : List ℕ) (r : Bool) → 1 ≤ n → n ≤ length u → IsTrue r ↔ All (λ x. x ≡ 0) (slice_range u 1 n) → Decides r (take n u ≡ constant n (get_or u 0 0))
+constant_decides : (n : ℕ) (u : List ℕ) (r : Bool) → 1 ≤ n → n ≤ length u
+    → IsTrue r ↔ All (λ x. x ≡ 0) (slice_range u 1 n) → Decides r (take n u ≡ constant n (get_or u 0 0))
 unfolding constant
 constant_decides zero u r low l h = absurd (omega arith)
 constant_decides (suc n) [] r low l h = absurd (omega arith)
 constant_decides (suc n) (a ∷ f) r low l h =
     record {
-      if_true = λ e. ap (λ g. a ∷ g) (zeros_are (take n f) (subst (λ k. All (λ x. x ≡ 0) (take k f)) count (h.0 e)) ∙ ap (λ k. replicate k 0) (length-take-le n f (omega arith)));
+      if_true = λ e. ap (λ g. a ∷ g)
+          (zeros_are (take n f) (subst (λ k. All (λ x. x ≡ 0) (take k f)) count (h.0 e)) ∙ ap (λ k. replicate k 0) (length-take-le n f (omega arith)));
       if_false = λ e g. false≢true (sym e ∙ h.1 (subst (λ k. All (λ x. x ≡ 0) (take k f)) (sym count)
           (subst (All (λ x. x ≡ 0)) (sym (tail-eq_of_cons-eq g)) (All-replicate (λ x. x ≡ 0) n 0 refl))));
     }

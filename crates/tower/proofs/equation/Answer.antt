@@ -89,7 +89,9 @@ module _ (p n : ℕ) (t a c s : List ℕ) (prime : Prime p) (low : 1 ≤ n) (sho
 record Answers (p n : ℕ) (t a : List ℕ) (regular : Bool) (u : List ℕ) : Type 0 where
   if_regular : regular ≡ true → Unsolved p n t a
   if_fixed : regular ≡ false → get_or u 0 0 ≡ 0 → Unsolved p n t a
-  if_solved : regular ≡ false → (get_or u 0 0 ≡ 0 → ⊥) → (v : List ℕ) → v ≡ padded (scale p (inverse p (p - get_or u 0 0)) (without_constant (take n u))) → Solved p n t a v
+  if_solved :
+      regular ≡ false → (get_or u 0 0 ≡ 0 → ⊥) → (v : List ℕ)
+      → v ≡ padded (scale p (inverse p (p - get_or u 0 0)) (without_constant (take n u))) → Solved p n t a v
 
 answers : (p n : ℕ) (t a c s : List ℕ) → Prime p → 1 ≤ n → n ≤ 16 → Holds p n t → Holds p n a → Differences p n (take n t) c → Placed n 0 a c s
     → (regular : Bool) (u : List ℕ) → Outcome p n s (replicate 16 0) regular u → Answers p n (take n t) (take n a) regular u

@@ -34,7 +34,11 @@ module _ (p n : ℕ) (big : 2 ≤ p) where
 
       pub powers_turn : (q' : ℕ) → q' ≡ q * p → PowersBelow p n (k + 1) q'
       powers_turn q' e =
-          record { positive = omega arith; power_is = e ∙ ap (λ x. x * p) h.power_is ∙ sym (pow-suc p k) ∙ ap (λ x. p ^ x) (sym (add-one k)); before = λ j m l. by_place j m l (ℕ_discrete j k) }
+          record {
+            positive = omega arith;
+            power_is = e ∙ ap (λ x. x * p) h.power_is ∙ sym (pow-suc p k) ∙ ap (λ x. p ^ x) (sym (add-one k));
+            before = λ j m l. by_place j m l (ℕ_discrete j k);
+          }
         where
           by_place : (j : ℕ) → 1 ≤ j → j < k + 1 → Dec (j ≡ k) → p ^ j < n
           by_place j m l (yes s) = rw s (omega (arith, h.power_is))

@@ -1,5 +1,4 @@
 -- `from_rounds`: a modulus whose rounds have no solution is refused, T1 before T2; otherwise the rounds give α1 and α2.
-use Rattle.std.proofs.Common.{rules}
 use Rattle.std.proofs.lemmas.Result.{err_from_is_err_and}
 use Rattle.finder.proofs.construct.FromRounds.{rounds_choices}
 use Rattle.finder.proofs.construct.Numbers.{six, seven}

@@ -17,8 +17,11 @@ construct-requires-clause-holds c = (search (first_holds, second_holds), search 
 
 pub returns-clause-number : goal.returns-clause-number
 returns-clause-number c =
-    of_lists _ _ _ _ c.requires (λ x y. number_of c.construct.result ≡ refuse_find c.args.p c.args.n x y) _ _ c.load.ensures c.load-2.ensures c.construct.ensures.number
+    of_lists _ _ _ _ c.requires
+    (λ x y. number_of c.construct.result ≡ refuse_find c.args.p c.args.n x y) _ _ c.load.ensures c.load-2.ensures c.construct.ensures.number
 
 pub returns-clause-pair : goal.returns-clause-pair
 returns-clause-pair c =
-    of_lists _ _ _ _ c.requires (λ x y. IfOk c.construct.result (λ pair. FoundPair c.args.p c.args.n x y 0 pair.forward pair.backward)) _ _ c.load.ensures c.load-2.ensures c.construct.ensures.pair
+    of_lists _ _ _ _ c.requires
+    (λ x y. IfOk c.construct.result (λ pair. FoundPair c.args.p c.args.n x y 0 pair.forward pair.backward))
+    _ _ c.load.ensures c.load-2.ensures c.construct.ensures.pair
