@@ -38,7 +38,7 @@ use Rattle.work.specs.declared.Table.TheVariants.{Closed, Open}
 use Rattle.work.specs.declared.Work.{Work}
 use Rattle.session.specs.Session.{new_session}
 use Rattle.session.specs.declared.Session.{Session}
-use Rattle.session.specs.declared.Step.{Step}
+use Rattle.session.specs.Step.{Step}
 use Rattle.cvalue.specs.declared.HeldValue.{HeldValue}
 use Rattle.cvalue.specs.declared.RecordValue.{RecordValue}
 use Rattle.cvalue.specs.declared.SessionValue.{SessionValue}

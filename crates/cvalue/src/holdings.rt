@@ -1,4 +1,5 @@
-// What is held to values with a number for the state, and back.
+// What is held to values with a number for the state, and back. Only C has these numbers: a `From`
+// would have to stand in held, and each function has a definition of its own in specs.
 ghost use Rattle.std.specs.Prelude.{◌≡◌};
 ghost use Rattle.cvalue.specs.Values.{state_of, number_of, held_of, held_value};
 
@@ -31,18 +32,23 @@ fn number_of(state: State) -> u32
 pub fn held_of(v: HeldValue) -> Held
     ensures { result ≡ held_of v }
 {
-    let t1 = v.t1;
-    let t2 = v.t2;
-    let s = v.s;
-    let r = v.r;
+    let HeldValue {
+        state,
+        p,
+        n,
+        t1,
+        t2,
+        s,
+        r,
+    } = v;
     Held {
-        state: state_of(v.state),
-        p: v.p,
-        n: v.n,
-        t1: t1,
-        t2: t2,
-        s: s,
-        r: r,
+        state: state_of(state),
+        p,
+        n,
+        t1,
+        t2,
+        s,
+        r,
     }
 }
 
@@ -50,18 +56,22 @@ pub fn held_of(v: HeldValue) -> Held
 pub fn held_value(held: Held) -> HeldValue
     ensures { result ≡ held_value held }
 {
-    let state = held.state;
-    let t1 = held.t1;
-    let t2 = held.t2;
-    let s = held.s;
-    let r = held.r;
+    let Held {
+        state,
+        p,
+        n,
+        t1,
+        t2,
+        s,
+        r,
+    } = held;
     HeldValue {
         state: number_of(state),
-        p: held.p,
-        n: held.n,
-        t1: t1,
-        t2: t2,
-        s: s,
-        r: r,
+        p,
+        n,
+        t1,
+        t2,
+        s,
+        r,
     }
 }

@@ -1,8 +1,9 @@
-// Records to values with a number for the direction, and back.
-ghost use Rattle.std.specs.Prelude.{map, ◌≡◌, ◌≤◌, take};
-ghost use Rattle.algebra.specs.Lists.{all};
+// Records to values with a number for the direction, and back. Only C has these numbers: a `From`
+// would have to stand in ledger, and each function has a definition of its own in specs.
+ghost use Rattle.std.specs.List.{All};
+ghost use Rattle.std.specs.Prelude.{map, ◌≡◌, ◌≤◌, ◌↔◌, IsTrue, take};
 ghost use Rattle.ledger.specs.Ledger.{most_records, none};
-ghost use Rattle.cvalue.specs.Values.{direction_of, direction_number, record_of, record_value, has_direction, up_to};
+ghost use Rattle.cvalue.specs.Values.{direction_of, direction_number, record_of, record_value, up_to};
 
 use crate::{RecordValue, SessionValue};
 use ledger::{Direction, Record};
@@ -41,9 +42,8 @@ fn record_of(v: RecordValue) -> Record
 pub fn record_value(entry: Record) -> RecordValue
     ensures { result ≡ record_value entry }
 {
-    let direction = entry.direction;
     RecordValue {
-        direction: direction_number(direction),
+        direction: direction_number(entry.direction),
         residues: entry.residues,
     }
 }
@@ -51,17 +51,11 @@ pub fn record_value(entry: Record) -> RecordValue
 // Whether each record that counts has a direction.
 pub fn have_directions(v: SessionValue) -> bool
     requires { v.records ≤ most_records }
-    ensures { result ≡ all has_direction (take v.records v.ledger) }
+    ensures { IsTrue result ↔ All (λ x. x.direction ≤ 1) (take v.records v.ledger) }
 {
-    let count = v.records as usize;
-    let mut i = 0;
-    while i < count {
-        if v.ledger[i].direction > 1 {
-            return false;
-        }
-        i += 1;
-    }
-    true
+    v.ledger[..v.records as usize]
+        .iter()
+        .all(|x| x.direction <= 1)
 }
 
 // The records that count, and none after them.
@@ -74,11 +68,8 @@ pub fn records_of(v: SessionValue) -> [Record; 512]
         residues: 0,
     };
     let mut records = [nothing; 512];
-    let count = v.records as usize;
-    let mut i = 0;
-    while i < count {
+    for i in 0..v.records as usize {
         records[i] = record_of(v.ledger[i]);
-        i += 1;
     }
     records
 }

@@ -32,12 +32,10 @@ fn is_made(v: SessionValue) -> bool
 fn work_of(v: SessionValue) -> Work
     ensures { result ≡ work_of v }
 {
-    let held = v.held;
-    let waiting = v.waiting;
     Work {
-        held: held_of(held),
+        held: held_of(v.held),
         table: table_of(v.table, v.fed),
-        waiting: held_of(waiting),
+        waiting: held_of(v.waiting),
     }
 }
 
@@ -66,10 +64,7 @@ pub fn session_of(v: SessionValue) -> Session
     let records = records_of(v);
     let ledger = Ledger {
         count: v.records,
-        records: records,
+        records,
     };
-    Session {
-        work: work,
-        ledger: ledger,
-    }
+    Session { work, ledger }
 }

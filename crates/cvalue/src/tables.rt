@@ -1,4 +1,5 @@
-// The open table to numbers, and back: 0 is no table, 1 a forward one, 2 one back.
+// The open table to numbers, and back: 0 is no table, 1 a forward one, 2 one back. Only C has these
+// numbers: a `From` would have to stand in work, and each function has a definition of its own in specs.
 ghost use Rattle.std.specs.Prelude.{◌≡◌};
 ghost use Rattle.cvalue.specs.Values.{table_of, open_in, open_number, fed_number, table_made};
 
@@ -38,10 +39,7 @@ pub fn open_number(table: Table) -> u32
 {
     match table {
         Table::Closed => 0,
-        Table::Open(entry) => {
-            let direction = entry.direction;
-            open_in(direction)
-        }
+        Table::Open(entry) => open_in(entry.direction),
     }
 }
 
@@ -59,11 +57,5 @@ pub fn fed_number(table: Table) -> u32
 pub fn is_table(number: u32, waiting: u32) -> bool
     ensures { result ≡ table_made number waiting }
 {
-    if number == 0 {
-        return true;
-    }
-    if number > 2 {
-        return false;
-    }
-    waiting <= 2
+    number == 0 || (number <= 2 && waiting <= 2)
 }

@@ -1,7 +1,7 @@
 -- The session of a value and what it counts as, by the tests of the code.
 --   state_past, table_unmade, records_past, directions_decide   whether a value is made
 --   counts_unmade, counts_made                                  what a value counts as
---   new_session_lem, records_few, session_made                  the session of a value
+--   unmade_session, records_few, session_made                  the session of a value
 use mathlib.Core.Path.{◌≡◌, sym, ap, ◌∙◌}
 use mathlib.Core.Bool.{Bool, true, false, not}
 use mathlib.Core.List.{List, map}
@@ -53,9 +53,9 @@ module _ (v : SessionValue) (b : Bool) (e : b ≡ made v) where
   counts_made n w f c g = rw (← e, not-false b n) (g ∙ ap (λ u. counted_as u v.records) f)
 
   -- the session of a value
-  pub new_session_lem : not b ≡ true → (x : Session) → x ≡ new_session → x ≡ session_of v
+  pub unmade_session : not b ≡ true → (x : Session) → x ≡ new_session → x ≡ session_of v
   unfolding session_of
-  new_session_lem n x f = rw (← e, not-true b n) f
+  unmade_session n x f = rw (← e, not-true b n) f
 
   module _ (n : not b ≡ false) where
     pub records_few : v.records ≤ most_records

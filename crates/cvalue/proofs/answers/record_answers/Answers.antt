@@ -1,11 +1,11 @@
--- By the number: where it is 0 the value counts as itself and has room.
+-- Where nothing is refused the value counts as itself and has room.
 use Rattle.ledger.proofs.Records.{records_long}
-use Rattle.cvalue.proofs.answers.Laws.{record_refused, record_next}
 use Rattle.cvalue.proofs.answers.Laws.{record_refused, record_next}
 use Rattle.cvalue.proofs.answers.record_answers.Goals as goal
 
-pub returns-then-y-ne0 : goal.returns-then-y-ne0
-returns-then-y-ne0 c = search record_refused
+pub returns-in-Ok : goal.returns-in-Ok
+returns-in-Ok c =
+    λ y h. record_next _ _ _ c.in-Ok.is c.requires y h (search (records_long, c.well_formed)) _ c.record_value.ensures _ c.with_work.ensures
 
-pub returns : goal.returns
-returns c = search (record_next, records_long, c.well_formed)
+pub returns-in-Err : goal.returns-in-Err
+returns-in-Err c = λ y h. record_refused _ y _ h _ c.in-Err.is _ c.into.ensures

@@ -1,2 +1,0 @@
--- What the proofs of what is held use.
-mod Laws

@@ -1,2 +1,0 @@
--- What the proofs of tables use.
-mod Laws
