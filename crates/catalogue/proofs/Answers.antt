@@ -9,8 +9,11 @@ use borrow.Author.Tests.{ltb-false, eqb-true, eq-eqb, ne_eqb, not-false}
 use lib.Dec.{eqb, ltb}
 use lib.ListN.{length}
 use Rattle.array.specs.Digits.{digits}
+use Rattle.refusal.specs.Number.{number}
 use Rattle.refusal.specs.Refusal.{refuse, bad_prime, bad_degree}
+use Rattle.refusal.specs.declared.number.Refusal.{Refusal}
 use Rattle.refusal.proofs.Order.{refuse_none, prime_bounds, degree_given, Follows, passed, follows_next, follows_stays, follows_passes}
+use Rattle.refusal.proofs.Refused.{refused}
 use Rattle.refusal.proofs.Written.{output_new, output_old}
 use Rattle.sieve.specs.Clauses.{Sieved}
 use Rattle.catalogue.specs.Catalogue.{most_polynomials, models, count_number, model_count, list_number, list_output}
@@ -18,11 +21,11 @@ use Rattle.catalogue.specs.Marks.{unmarked}
 use Rattle.catalogue.proofs.Unmarked.{unmarked-models, unmarked_count}
 
 -- what the number 0 leaves of p and n
-module _ (p n number : ℕ) (e : number ≡ count_number p n) (h : number ≡ 0) where
+module _ (p n : ℕ) (h : 0 ≡ count_number p n) where
   none_applies : (bad_prime p ≡ false) × (bad_degree n ≡ false) × (ltb most_polynomials (p ^ n) ≡ false)
   unfolding count_number
   none_applies =
-      let (prime, after1) = refuse_none 0 (bad_prime p) _ (sym e ∙ h) in
+      let (prime, after1) = refuse_none 0 (bad_prime p) _ (sym h) in
       let (degree, after2) = refuse_none 1 (bad_degree n) _ after1 in
       (prime, degree, (refuse_none 28 (ltb most_polynomials (p ^ n)) 0 after2).0)
 
@@ -67,24 +70,21 @@ module _ (p n : ℕ) where
       list_refuses : (length out ≡ n * length (models p n) → ⊥) → list_number p n out ≡ 3
       list_refuses e = follows_passes chain h ∙ ap (λ b. refuse 3 (not b) 0) (ne_eqb (length out) (n * length (models p n)) e)
 
-  -- refused by p and n
-  module _ (number : ℕ) (e : number ≡ count_number p n) (h : number ≡ 0 → ⊥) where
-    pub count_refused : 0 ≡ model_count p n
-    unfolding model_count
-    count_refused = rw (model_count, ne_eqb (count_number p n) 0 (λ f. h (e ∙ f)))
+  -- refused by p and n, the count is 0
+  pub count_refused : (count_number p n ≡ 0 → ⊥) → 0 ≡ model_count p n
+  unfolding model_count
+  count_refused h = rw (model_count, ne_eqb (count_number p n) 0 h)
 
-    pub list_refused : (out : List ℕ) → number ≡ list_number p n out
-    list_refused out = follows_stays (chain out) number e h
+  module _ (x : Refusal) (h : number x ≡ count_number p n) where
+    pub list_refused : (out : List ℕ) → number x ≡ list_number p n out
+    list_refused out = follows_stays (chain out) (number x) h (refused x)
 
     pub output_refused : (out : List ℕ) → out ≡ list_output p n out
     unfolding list_output
-    output_refused out = output_old number (list_number p n out) (flatten (models p n)) out (list_refused out) h
+    output_refused out = output_old (number x) (list_number p n out) (flatten (models p n)) out (list_refused out) (refused x)
 
   -- not refused by them
-  module _ (number : ℕ) (e : number ≡ count_number p n) (h : number ≡ 0) where
-    pub number_none : 0 ≡ count_number p n
-    number_none = sym h ∙ e
-
+  module _ (number_none : 0 ≡ count_number p n) where
     module _ (marks : List ℕ) (sieved : Sieved p n marks) (size count : ℕ) (power : size ≡ p ^ n) (counted : count ≡ length (unmarked size marks)) where
       models_counted : count ≡ length (models p n)
       models_counted = counted ∙ ap (λ k. length (unmarked k marks)) power ∙ unmarked_count p n marks sieved

@@ -1,5 +1,5 @@
 -- The proofs of the catalogue.
 mod Filter
 mod Unmarked
-mod Answers
+pub mod Answers
 pub mod Theorem

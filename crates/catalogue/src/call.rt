@@ -1,56 +1,39 @@
 // The public calls. On a refusal the list lent for the models is as found.
-ghost use Rattle.std.specs.Prelude.{◌≡◌};
+ghost use Rattle.std.specs.Prelude.{◌≡◌, IfOk};
 ghost use Rattle.catalogue.specs.Catalogue.{count_number, model_count, list_number, list_output};
+ghost use Rattle.refusal.specs.Number.{number_of};
 
 use crate::marks::{count_unmarked, write_unmarked};
-use crate::number::count_number;
+use crate::number::check_size;
 use array::Word;
+use refusal::Refusal;
 use sieve::digits::power;
 use sieve::sieve::sieve;
 
-// The answer of `count_models`: refused, the count is 0.
-#[derive(Clone, Copy)]
-pub struct Count {
-    pub number: u32,
-    pub count: u32,
-}
-
 // How many monic polynomials of degree n modulo p have no monic divisor of degree 1 to n − 1.
-pub fn count_models(p: u32, n: u32) -> Count
-    ensures number_value { result.number ≡ count_number p n }
-    ensures count_value { result.count ≡ model_count p n }
+pub fn count_models(p: u32, n: u32) -> Result<u32, Refusal>
+    ensures number_value { number_of result ≡ count_number p n }
+    ensures count_value { IfOk result (λ c. c ≡ model_count p n) }
 {
-    let number = count_number(p, n);
-    if number != 0 {
-        return Count {
-            number: number,
-            count: 0,
-        };
-    }
+    check_size(p, n)?;
     let mut marks = [0; 131072];
     sieve(p, n as usize, &mut marks);
-    Count {
-        number: 0,
-        count: count_unmarked(power(p as usize, n as usize), &marks),
-    }
+    Ok(count_unmarked(power(p as usize, n as usize), &marks))
 }
 
 // The lower words of each of them, n words each, in ascending order, coefficients compared from the highest power down.
-pub fn list_models(p: u32, n: u32, out: &mut [Word]) -> u32
-    ensures value { result ≡ list_number p n out.old }
+pub fn list_models(p: u32, n: u32, out: &mut [Word]) -> Result<(), Refusal>
+    ensures value { number_of result ≡ list_number p n out.old }
     ensures out_after { out.new ≡ list_output p n out.old }
 {
-    let number = count_number(p, n);
-    if number != 0 {
-        return number;
-    }
+    check_size(p, n)?;
     let mut marks = [0; 131072];
     sieve(p, n as usize, &mut marks);
     let size = power(p as usize, n as usize);
     let count = count_unmarked(size, &marks);
     if out.len() as u64 != n as u64 * count as u64 {
-        return 3;
+        return Err(Refusal::Length);
     }
     write_unmarked(p, n as usize, size, &marks, out);
-    0
+    Ok(())
 }

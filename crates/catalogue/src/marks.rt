@@ -13,30 +13,26 @@ pub fn count_unmarked(size: usize, marks: &[u8; 131072]) -> u32
     ensures { result ≡ length (unmarked size marks.now) }
 {
     let mut count = 0;
-    let mut c = 0;
-    while c < size {
-        if marks[size + c] == 0 {
+    for mark in &marks[size..2 * size] {
+        if *mark == 0 {
             count += 1;
         }
-        c += 1;
     }
     count
 }
 
 // The n words of each that is not marked, one after the other.
 pub fn write_unmarked(p: u32, n: usize, size: usize, marks: &[u8; 131072], out: &mut [Word])
-    requires le_p { (1 ≤ p) × (n ≤ 16) × (size ≤ 65536) × (length marks.now ≡ 131072) }
-    requires out_len { length out.old ≡ n * length (unmarked size marks.now) }
+    requires sizes { (1 ≤ p) × (n ≤ 16) × (size ≤ 65536) × (length marks.now ≡ 131072) }
+    requires room { length out.old ≡ n * length (unmarked size marks.now) }
     ensures { out.new ≡ flatten (map (digits p n) (unmarked size marks.now)) }
 {
     let mut at = 0;
-    let mut code = 0;
-    while code < size {
+    for code in 0..size {
         if marks[size + code] == 0 {
             let next = at + n;
             write_digits(p, code as u32, &mut out[at..next]);
             at = next;
         }
-        code += 1;
     }
 }

@@ -7,8 +7,8 @@ use Prim.Native.Nat.{ℕ, ◌+◌, ◌-◌, ◌*◌, ◌≤◌, ◌<◌}
 use native.Mathlib.Nat.{add-sub_cancel_left, mul-zero, mul-le-mul_left}
 use native.Mathlib.Omega.{arith}
 use lib.ListN.{length, get_or, take, drop, length-append, length-drop}
-use lib.Seq.{length-take-le, take_at, take_all}
-use borrow.Rule.Slice.PartMut.{put_mid, post_of, same_len_mid}
+use lib.Seq.{get_or-take, get_or-drop, length-take-le, take_at, take_all}
+use borrow.Rule.Slice.PartMut.{put_mid, mid_of, post_of, same_len_mid}
 use Rattle.array.specs.Digits.{digits}
 use Rattle.array.proofs.Digits.{digits-length}
 use Rattle.catalogue.specs.Marks.{unmarked}
@@ -18,36 +18,55 @@ use Rattle.catalogue.proofs.Unmarked.{unmarked_below, below_zero, below_all, bel
 -- how many
 
 pub record Counting (size : ℕ) (marks : List ℕ) (count c : ℕ) : Type 0 where
-  pub within : c ≤ size
   pub value : count ≡ length (unmarked_below size marks c)
   pub few : count ≤ c
 
 pub count_starts : (size : ℕ) (marks : List ℕ) → Counting size marks 0 0
-count_starts size marks = record { within = omega arith; value = ap length (sym (below_zero size marks)); few = omega arith }
+count_starts size marks = record { value = ap length (sym (below_zero size marks)); few = omega arith }
 
 module _ (size count c : ℕ) (marks : List ℕ) (h : Counting size marks count c) where
   module _ (l : c < size) (count' : ℕ) where
-    pub count_turn : get_or marks (size + c) 0 ≡ 0 → count' ≡ count + 1 → Counting size marks count' (c + 1)
+    count_turn : get_or marks (size + c) 0 ≡ 0 → count' ≡ count + 1 → Counting size marks count' (c + 1)
     count_turn free e =
         record {
-          within = omega arith;
           value = omega (arith, h.value, ap length (below_free size marks c free), length-append (unmarked_below size marks c) (c ∷ []));
           few = omega (arith, h.few);
         }
 
-    pub count_skip : (get_or marks (size + c) 0 ≡ 0 → ⊥) → count' ≡ count → Counting size marks count' (c + 1)
+    count_skip : (get_or marks (size + c) 0 ≡ 0 → ⊥) → count' ≡ count → Counting size marks count' (c + 1)
     count_skip marked e =
-        record { within = omega arith; value = e ∙ h.value ∙ ap length (sym (below_marked size marks c marked)); few = omega (arith, h.few) }
+        record { value = e ∙ h.value ∙ ap length (sym (below_marked size marks c marked)); few = omega (arith, h.few) }
 
-  pub count_done : size ≤ c → count ≡ length (unmarked size marks)
-  count_done l =
-      let same : c ≡ size = omega (arith, h.within) in
+  count_done : c ≤ size → size ≤ c → count ≡ length (unmarked size marks)
+  count_done within l =
+      let same : c ≡ size = omega arith in
       h.value ∙ ap length (ap (unmarked_below size marks) same ∙ below_all size marks)
+
+-- over the marks themselves, those from `size` on
+
+module _ (size c : ℕ) (marks : List ℕ) (few : size ≤ 65536) (room : length marks ≡ 131072) where
+  pub items-length : length (mid_of size (2 * size - size) marks) ≡ size
+  items-length =
+      let width : 2 * size - size ≡ size = omega arith in
+      length-take-le (2 * size - size) (drop size marks) (rw length-drop (omega arith)) ∙ width
+
+  item_is : c < length (mid_of size (2 * size - size) marks) → get_or (mid_of size (2 * size - size) marks) c 0 ≡ get_or marks (size + c) 0
+  item_is l = get_or-take (2 * size - size) (drop size marks) c 0 (omega (arith, items-length)) ∙ get_or-drop size marks c 0
+
+  module _ (count count' : ℕ) (h : Counting size marks count c) where
+    module _ (l : c < length (mid_of size (2 * size - size) marks)) where
+      pub item_turn : get_or (mid_of size (2 * size - size) marks) c 0 ≡ 0 → count' ≡ count + 1 → Counting size marks count' (c + 1)
+      item_turn free e = count_turn size count c marks h (omega (arith, items-length)) count' (sym (item_is l) ∙ free) e
+
+      pub item_skip : (get_or (mid_of size (2 * size - size) marks) c 0 ≡ 0 → ⊥) → count' ≡ count → Counting size marks count' (c + 1)
+      item_skip marked e = count_skip size count c marks h (omega (arith, items-length)) count' (λ f. marked (item_is l ∙ f)) e
+
+    pub items_done : c ≤ length (mid_of size (2 * size - size) marks) → length (mid_of size (2 * size - size) marks) ≤ c → count ≡ length (unmarked size marks)
+    items_done within end = count_done size count c marks h (omega (arith, items-length)) (omega (arith, items-length))
 
 -- their words
 
 pub record Writing (p n size : ℕ) (marks out : List ℕ) (at c : ℕ) : Type 0 where
-  pub within : c ≤ size
   pub room : length out ≡ n * length (unmarked size marks)
   pub inside : at ≤ length out
   pub place : at ≡ n * length (unmarked_below size marks c)
@@ -57,7 +76,6 @@ pub write_starts : (p n size : ℕ) (marks out : List ℕ) → length out ≡ n 
 unfolding flatten
 write_starts p n size marks out room =
     record {
-      within = omega arith;
       room = room;
       inside = omega arith;
       place = sym (ap (λ l. n * length l) (below_zero size marks) ∙ mul-zero n);
@@ -105,7 +123,6 @@ module _ (p n size at c : ℕ) (marks out : List ℕ) (h : Writing p n size mark
       write_turn out' at' e f =
           let same : length out' ≡ length out = ap length e ∙ same_len_mid at (at + n - at) out z (new_length ∙ sym part_length) in
           record {
-            within = omega arith;
             room = same ∙ h.room;
             inside = omega (arith, next_ends, same);
             place = f ∙ sym one_more;
@@ -115,16 +132,15 @@ module _ (p n size at c : ℕ) (marks out : List ℕ) (h : Writing p n size mark
   pub write_skip : c < size → (get_or marks (size + c) 0 ≡ 0 → ⊥) → (out' : List ℕ) (at' : ℕ) → out' ≡ out → at' ≡ at → Writing p n size marks out' at' (c + 1)
   write_skip l marked out' at' e f =
       record {
-        within = omega arith;
         room = ap length e ∙ h.room;
         inside = omega (arith, ap length e, h.inside);
         place = f ∙ h.place ∙ ap (λ l. n * length l) (sym (below_marked size marks c marked));
         words = ap₂ take f e ∙ h.words ∙ ap (λ l. flatten (map (digits p n) l)) (sym (below_marked size marks c marked));
       }
 
-  pub write_done : size ≤ c → out ≡ flatten (map (digits p n) (unmarked size marks))
-  write_done l =
-      let same : c ≡ size = omega (arith, h.within) in
+  pub write_done : c ≤ size → size ≤ c → out ≡ flatten (map (digits p n) (unmarked size marks))
+  write_done within l =
+      let same : c ≡ size = omega arith in
       let all : unmarked_below size marks c ≡ unmarked size marks = ap (unmarked_below size marks) same ∙ below_all size marks in
       let whole : length out ≤ at = omega (arith, h.room, h.place, ap (λ l. n * length l) all) in
       sym (take_all at out whole) ∙ h.words ∙ ap (λ l. flatten (map (digits p n) l)) all

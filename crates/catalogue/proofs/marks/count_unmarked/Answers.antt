@@ -1,12 +1,13 @@
-use Rattle.catalogue.proofs.marks.Loops.{count_starts, count_turn, count_skip, count_done}
+use Rattle.catalogue.proofs.marks.Loops.{count_starts, item_turn, item_skip, items_done}
 use Rattle.catalogue.proofs.marks.count_unmarked.Goals as goal
-use Rattle.catalogue.proofs.marks.count_unmarked.Goals.{then-marks-size-eq0, else-marks-size-eq0}
+use Rattle.catalogue.proofs.marks.count_unmarked.Goals.{then-mark-eq0, else-mark-eq0}
 
-pub loop-c-init : goal.loop-c-init
-loop-c-init c = search count_starts
+pub loop-mark-init : goal.loop-mark-init
+loop-mark-init c = search count_starts
 
-pub loop-c-preserved : goal.loop-c-preserved
-loop-c-preserved c = elim c.if-marks-size-eq0.branch [ then-marks-size-eq0 w ↦ search count_turn | else-marks-size-eq0 w ↦ search count_skip ]
+pub loop-mark-preserved : goal.loop-mark-preserved
+loop-mark-preserved c = elim c.if-mark-eq0.branch [ then-mark-eq0 w ↦ search item_turn | else-mark-eq0 w ↦ search item_skip ]
 
 pub returns : goal.returns
-returns c = search count_done
+returns c =
+    items_done _ _ _ c.requires.0 c.requires.1 _ c.loop-mark.count c.loop-mark.invariant c.loop-mark.auto.mark-index-end c.loop-mark-test.false
