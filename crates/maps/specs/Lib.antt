@@ -1,4 +1,3 @@
--- All the maps of a pair: what the call writes, and what is proved of it; and the definitions of the contracts between its functions.
+-- All the maps of a pair: what the call writes, and what is proved of it.
 pub mod Maps
 pub mod Theorem
-pub mod Accepted

@@ -31,18 +31,16 @@ fn sorted_conjugates(
     ensures { out.new ≡ flatten (sorted (conjugate d.p (take n t.now) (take n s.now)) n) }
 {
     let mut u = *s;
-    let mut k = 0;
-    while k < n {
+    for k in 0..n {
         insert(n, k, &u, out);
         u = products(d, n, n, m, &u);
-        k += 1;
     }
 }
 
 // The same for lists of n words.
 pub fn write_conjugates(p: u32, n: u32, t: &[Word], s: &[Word], out: &mut [Word])
     requires prime { Prime p }
-    requires p_bound { (p ≤ 2 ^ 20) × (1 ≤ n) × (n ≤ 16) × (length out.old ≡ n * n) }
+    requires sizes { (p ≤ 2 ^ 20) × (1 ≤ n) × (n ≤ 16) × (length out.old ≡ n * n) }
     requires words { Words p n t.now × Words p n s.now }
     ensures { out.new ≡ flatten (sorted (conjugate p t.now s.now) n) }
 {

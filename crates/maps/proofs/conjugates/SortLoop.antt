@@ -25,7 +25,6 @@ use Rattle.sorting.proofs.Insertion.{sorted-length, sorted_member}
 use Rattle.sorting.proofs.insert.Rows.{rows-flatten}
 
 pub record Sorting (p n : ℕ) (t s out₀ out u : List ℕ) (k : ℕ) : Type 0 where
-  pub within : k ≤ n
   pub room : length out ≡ n * n
   pub lengths : length out ≡ length out₀
   pub next : u ≡ padded (conjugate p (take n t) (take n s) k)
@@ -51,7 +50,6 @@ module _ (p n : ℕ) (t s : List ℕ) (prime : Prime p) (ht : Holds p n t) (hs :
   pub sort_starts : (out : List ℕ) → length out ≡ n * n → Sorting p n t s out out s 0
   sort_starts out room =
       record {
-        within = omega arith;
         room = room;
         lengths = refl;
         next = hs.zeros ∙ ap padded (sym (conjugate-zero prime.0 ht.words hs.words));
@@ -87,7 +85,6 @@ module _ (p n : ℕ) (t s : List ℕ) (prime : Prime p) (ht : Holds p n t) (hs :
         → w ≡ padded (matrix_product p n m (take n u)) → Sorting p n t s out₀ out' w (k + 1)
     sort_turn l m out' w frobenius same e g =
         record {
-          within = omega arith;
           room = same ∙ c.room;
           lengths = same ∙ c.lengths;
           next = FrobeniusMatrix.conjugate_next p n t (take n s) prime ht hs.words k u c.next m w frobenius g;
@@ -96,8 +93,8 @@ module _ (p n : ℕ) (t s : List ℕ) (prime : Prime p) (ht : Holds p n t) (hs :
               ∙ ap flatten (ap₂ insert (front_is c.next (conjugate_words prime.0 ht.words hs.words k)) rows_are ∙ sorted_suc f k);
         }
 
-    pub sort_done : n ≤ k → out ≡ flatten (sorted f n)
-    sort_done l =
-        let same : k ≡ n = omega (arith, c.within) in
+    pub sort_done : k ≤ n → n ≤ k → out ≡ flatten (sorted f n)
+    sort_done within l =
+        let same : k ≡ n = omega arith in
         let whole : length out ≤ k * n = omega (arith, c.room, ap (λ i. i * n) same) in
         sym (take_all (k * n) out whole) ∙ c.list ∙ ap (λ i. flatten (sorted f i)) same

@@ -1,10 +1,6 @@
 -- Before turn k the first k conjugates are in order.
-use Prim.Native.Nat.{◌-◌}
 use Rattle.maps.proofs.conjugates.SortLoop.{Sorting}
 use Rattle.maps.proofs.conjugates.sorted_conjugates.Given as goal
 
 abbrev pub invariant-loop-k : goal.invariant-loop-k
 invariant-loop-k l = Sorting l.d.p l.n l.t l.s l.initial.out l.out l.u l.k
-
-abbrev pub decreases-loop-k : goal.decreases-loop-k
-decreases-loop-k l = l.n - l.k
