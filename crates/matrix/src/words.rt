@@ -17,8 +17,8 @@ fn dot_list(d: Barrett, n: usize, m: &[u64; 256], u: &[Word], i: usize) -> u64
     ensures { result ≡ row_product m.now i 0 u.now % d.p }
 {
     let mut sum = 0;
-    for j in 0..n {
-        sum += times(m[16 * i + j], u[j] as u64);
+    for (j, word) in u.iter().enumerate() {
+        sum += times(m[16 * i + j], *word as u64);
     }
     d.reduce(sum)
 }
