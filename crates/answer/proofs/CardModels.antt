@@ -24,9 +24,9 @@ module _ (ys : List ℕ) (number : ℕ) (e : number ≡ read_number ys (replicat
   high : card_degree ys ≤ 16
   high = degree_most ys good.header
 
-  pub read_degree_lem : (n : ℕ) → n ≡ read_degree ys (replicate 64 0) → n ≤ 16
+  pub degree_few : (n : ℕ) → n ≡ read_degree ys (replicate 64 0) → n ≤ 16
   unfolding read_degree
-  read_degree_lem n en = rw (en, accepted) high
+  degree_few n en = rw (en, accepted) high
 
   module _ (p n kind : ℕ) (words : List ℕ) (ep : p ≡ read_prime ys (replicate 64 0)) (en : n ≡ read_degree ys (replicate 64 0))
       (ek : kind ≡ read_kind ys (replicate 64 0)) (ew : words ≡ read_output ys (replicate 64 0)) where

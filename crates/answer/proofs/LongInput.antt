@@ -44,9 +44,9 @@ header_good : (ys : List ℕ) → 167 ≤ length ys → bad_header ys ≡ false
 header_good ys h = header_taken ys (is_wide ys) refl (header_whole ys h)
 
 -- the reader's number of a string of 167 bytes or more
-long_number_lem : (ys : List ℕ) → 167 ≤ length ys → read_number ys (replicate 64 0) ≡ long_number (card_prime ys) (bad_layout ys) (card_kind ys)
+long_refused : (ys : List ℕ) → 167 ≤ length ys → read_number ys (replicate 64 0) ≡ long_number (card_prime ys) (bad_layout ys) (card_kind ys)
 unfolding read_number long_number bad_length all
-long_number_lem ys h =
+long_refused ys h =
     rw (header_good ys h) (go (bad_prime (card_prime ys)) (bad_layout ys) (bad_kind (card_kind ys)) refl _)
   where
     go : (a m b : Bool) → bad_prime (card_prime ys) ≡ a → (rest : ℕ)
@@ -97,10 +97,10 @@ module _ (ys zs : List ℕ) (h : 167 ≤ length ys) where
 
   same_text : 167 ≤ length (ys ++ zs) → answer_text ys ≡ answer_text (ys ++ zs)
   same_text k =
-      sym (refusal_is ys _ (sym (long_number_lem ys h)) (not_zero (card_prime ys) (bad_layout ys) (card_kind ys)))
+      sym (refusal_is ys _ (sym (long_refused ys h)) (not_zero (card_prime ys) (bad_layout ys) (card_kind ys)))
       ∙ ap₂ (λ p q. refused_text (long_number p (bad_layout ys) q)) (sym prime_front) (sym kind_front)
       ∙ ap (λ m. refused_text (long_number (card_prime (ys ++ zs)) m (card_kind (ys ++ zs)))) (sym layout_front)
-      ∙ refusal_is (ys ++ zs) _ (sym (long_number_lem (ys ++ zs) k)) (not_zero (card_prime (ys ++ zs)) (bad_layout (ys ++ zs)) (card_kind (ys ++ zs)))
+      ∙ refusal_is (ys ++ zs) _ (sym (long_refused (ys ++ zs) k)) (not_zero (card_prime (ys ++ zs)) (bad_layout (ys ++ zs)) (card_kind (ys ++ zs)))
 
 pub long_input : LongInput
 long_input ys = go (dec_le (length ys) 167)

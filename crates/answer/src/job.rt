@@ -3,13 +3,16 @@ ghost use Rattle.std.specs.Prelude.{◌++◌, ◌≡◌, ◌+◌, ◌*◌, ◌�
 ghost use Rattle.card.specs.Card.{card, card_length, write_number};
 ghost use Rattle.finder.specs.Finder.{find_number, find_output_s, find_output_r};
 ghost use Rattle.refusal.specs.Models.{Models};
+ghost use Rattle.refusal.specs.Number.{number_of};
 ghost use Rattle.answer.specs.Answer.{part};
 ghost use Rattle.answer.specs.JobWords.{JobWords};
 ghost use Rattle.text.specs.Text.{Appended, Begins};
 
 use array::Word;
+use card::kind::Kind;
 use card::layout::byte_count;
 use finder::find::find;
+use refusal::Refusal;
 use writer::writer::write;
 
 // The words of xs from the place `at` on: the place behind them.
@@ -17,13 +20,8 @@ fn put_words(words: &mut [Word], at: usize, xs: &[Word]) -> usize
     requires { at + length xs.now ≤ length words.old }
     ensures { Appended at xs.now words.old words.new result }
 {
-    let mut end = at;
-    let mut i = 0;
-    while i < xs.len() {
-        words[end] = xs[i];
-        end += 1;
-        i += 1;
-    }
+    let end = at + xs.len();
+    words[at..end].copy_from_slice(xs);
     end
 }
 
@@ -37,9 +35,9 @@ fn put_both(words: &mut [Word], at: usize, s: &[Word], r: &[Word]) -> usize
 }
 
 // The finder's call for T1 and T2, the first two parts of the words.
-fn find_in(p: u32, n: u32, words: &[Word], s: &mut [Word], r: &mut [Word]) -> u32
+fn find_in(p: u32, n: u32, words: &[Word], s: &mut [Word], r: &mut [Word]) -> Result<(), Refusal>
     requires { (n ≤ 16) × (length words.now ≡ 64) }
-    ensures value { result ≡ find_number p n (part n words.now 0) (part n words.now 1) s.old r.old }
+    ensures value { number_of result ≡ find_number p n (part n words.now 0) (part n words.now 1) s.old r.old }
     ensures s_after { s.new ≡ find_output_s p n (part n words.now 0) (part n words.now 1) s.old r.old }
     ensures r_after { r.new ≡ find_output_r p n (part n words.now 0) (part n words.now 1) s.old r.old }
 {
@@ -48,20 +46,26 @@ fn find_in(p: u32, n: u32, words: &[Word], s: &mut [Word], r: &mut [Word]) -> u3
 }
 
 // The finder's pair for T1 and T2, by way of two lists of n words, behind T1 and T2.
-fn find_behind(p: u32, n: u32, words: &mut [Word], s: &mut [Word], r: &mut [Word]) -> u32
+fn find_behind(
+    p: u32,
+    n: u32,
+    words: &mut [Word],
+    s: &mut [Word],
+    r: &mut [Word],
+) -> Result<(), Refusal>
     requires { (n ≤ 16) × (length words.old ≡ 64) × (length s.old ≡ n) × (length r.old ≡ n)
         × Models p n (part n words.old 0) (part n words.old 1) }
-    ensures { JobWords p n words.old words.new result }
+    ensures { JobWords p n words.old words.new (number_of result) }
 {
-    let number = find_in(p, n, words, s, r);
+    find_in(p, n, words, s, r)?;
     put_both(words, 2 * n as usize, s, r);
-    number
+    Ok(())
 }
 
-// The finder's pair for T1 and T2, the first words, behind them: 0, or the number of the refusal.
-pub fn find_pair(p: u32, n: u32, words: &mut [Word]) -> u32
+// The finder's pair for T1 and T2, the first words, behind them.
+pub fn find_pair(p: u32, n: u32, words: &mut [Word]) -> Result<(), Refusal>
     requires { (n ≤ 16) × (length words.old ≡ 64) × Models p n (part n words.old 0) (part n words.old 1) }
-    ensures { JobWords p n words.old words.new result }
+    ensures { JobWords p n words.old words.new (number_of result) }
 {
     let k = n as usize;
     let mut s = [0; 16];
@@ -75,6 +79,7 @@ pub fn write_card(p: u32, n: u32, words: &[Word], out: &mut [u8]) -> usize
     ensures { Begins (card p n 2 words.now) out.new result }
 {
     let size = byte_count(p, words.len());
-    write(p, n, 2, words, &mut out[..size]);
+    let kind = u32::from(Kind::Pair);
+    write(p, n, kind, words, &mut out[..size]).unwrap();
     size
 }

@@ -8,6 +8,7 @@ ghost use Rattle.text.specs.Text.{Begins};
 use answer::job::{find_pair, write_card};
 use answer::lines::{put_pair, put_refusal, put_ring, put_valid};
 use array::Word;
+use card::kind::Kind;
 use pair::checker::{check, congruences_hold};
 use reader::reader::read;
 
@@ -26,11 +27,10 @@ fn answer_job(p: u32, n: u32, words: &mut [Word], text: &mut [u8]) -> usize
     requires { (n ≤ 16) × (length words.old ≡ 64) × (338 ≤ length text.old) × Models p n (part n words.old 0) (part n words.old 1) }
     ensures { Begins (job_text p n (part n words.old 0) (part n words.old 1)) text.new result }
 {
-    let number = find_pair(p, n, words);
-    if number != 0 {
-        return put_refusal(text, number);
+    match find_pair(p, n, words) {
+        Ok(()) => print_card(p, n, &words[..4 * n as usize], text),
+        Err(refusal) => put_refusal(text, refusal),
     }
-    print_card(p, n, &words[..4 * n as usize], text)
 }
 
 // What is printed for T1, T2, S and R, to which 1 to 4 do not apply.
@@ -46,14 +46,16 @@ fn print_pair(
     requires { (338 ≤ length text.old) × Given p n t1.now t2.now s.now r.now }
     ensures { Begins (pair_card_text p t1.now t2.now s.now r.now) text.new result }
 {
-    let number = check(p, n, t1, t2, s, r);
-    if number == 0 {
-        return put_valid(text);
+    match check(p, n, t1, t2, s, r) {
+        Ok(()) => put_valid(text),
+        Err(refusal) => {
+            if congruences_hold(p, n, t1, t2, s, r) {
+                put_ring(text)
+            } else {
+                put_refusal(text, refusal)
+            }
+        }
     }
-    if congruences_hold(p, n, t1, t2, s, r) {
-        return put_ring(text);
-    }
-    put_refusal(text, number)
 }
 
 // A pair card: the words begin with T1, T2, S and R.
@@ -82,12 +84,11 @@ pub fn answer(card: &[u8], text: &mut [u8; 338]) -> usize
     ensures count { (result ≤ length text.new) × (result ≡ length (take result text.new)) }
 {
     let mut words = [0; 64];
-    let head = read(card, &mut words);
-    if head.number != 0 {
-        return put_refusal(text, head.number);
+    match read(card, &mut words) {
+        Ok(said) => match said.kind {
+            Kind::Job => answer_job(said.p, said.n, &mut words, text),
+            Kind::Pair => answer_pair(said.p, said.n, &words, text),
+        },
+        Err(refusal) => put_refusal(text, refusal),
     }
-    if head.kind == 1 {
-        return answer_job(head.p, head.n, &mut words, text);
-    }
-    answer_pair(head.p, head.n, &words, text)
 }

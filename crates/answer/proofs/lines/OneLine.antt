@@ -24,9 +24,9 @@ module _ (ys : List ℕ) {m k : ℕ} {t t1 t2 : List ℕ} (a : Appended 0 (80 �
   pub pair_room : 338 ≤ length t2 → k < length t2
   pair_room room = omega (arith, a.end_is, b.end_is, hexadecimal-length ys)
 
-  pub pair_line_lem : {r : ℕ} {t3 : List ℕ} → Appended k (10 ∷ []) t2 t3 r → 338 ≤ length t3 → Begins (pair_text ys) t3 r
+  pub line_of_pair : {r : ℕ} {t3 : List ℕ} → Appended k (10 ∷ []) t2 t3 r → 338 ≤ length t3 → Begins (pair_text ys) t3 r
   unfolding pair_text
-  pair_line_lem c room = three a b c (omega (arith, hexadecimal-length ys))
+  line_of_pair c room = three a b c (omega (arith, hexadecimal-length ys))
 
 -- `REFUSED `, the digits of a number of 32 bits and a newline
 module _ (d : ℕ) (fits : d < 2 ^ 32) {m : ℕ} {t t1 : List ℕ} (a : Appended 0 (82 ∷ 69 ∷ 70 ∷ 85 ∷ 83 ∷ 69 ∷ 68 ∷ 32 ∷ []) t t1 m) where

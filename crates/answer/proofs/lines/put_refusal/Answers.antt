@@ -10,4 +10,6 @@ pub put_byte-requires : goal.put_byte-requires
 put_byte-requires c = refusal_room _ (omega arith) c.put-start.ensures c.put_decimal-end.ensures (omega arith)
 
 pub returns : goal.returns
-returns c = refusal_line _ (omega arith) c.put-start.ensures c.put_decimal-end.ensures c.put_byte.ensures (omega arith)
+returns c =
+    rw (← c.from-number.ensures)
+    (refusal_line _ (omega arith) c.put-start.ensures c.put_decimal-end.ensures c.put_byte.ensures (omega arith))
