@@ -4,7 +4,7 @@ ghost use Rattle.algebra.specs.Prime.{Prime};
 ghost use Rattle.array.specs.Array.{padded, Holds};
 ghost use Rattle.matrix.specs.Matrix.{Frobenius};
 ghost use Rattle.modular.specs.Barrett.{Reduces};
-ghost use Rattle.irreducible.specs.Rabin.{conjugate_of_x, difference as difference_of};
+ghost use Rattle.irreducible.specs.Rabin.{conjugate_of_x, difference};
 
 use matrix::product::products;
 use modular::barrett::Barrett;
@@ -31,7 +31,7 @@ pub fn difference(d: Barrett, n: usize, t: &[u64; 16], m: &[u64; 256], k: usize)
     requires prime { Prime d.p }
     requires reduces { Reduces d × (1 ≤ n) × (n ≤ 16) }
     requires holds { Holds d.p n t.now × Frobenius d.p n (take n t.now) m.now }
-    ensures { result ≡ padded (difference_of d.p (take n t.now) k) }
+    ensures { result ≡ padded (difference d.p (take n t.now) k) }
 {
     let u = conjugate(d, n, t, m, k);
     let x = residue_of_x(d.p, n, t);

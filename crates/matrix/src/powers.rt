@@ -3,7 +3,7 @@
 ghost use Rattle.std.specs.Prelude.{◌≡◌, ◌^◌, ◌≤◌, ◌<◌, length, take};
 ghost use Rattle.array.specs.Array.{padded, Holds};
 ghost use Rattle.modular.specs.Barrett.{Reduces};
-ghost use Rattle.matrix.specs.Matrix.{Powers, Placed, Kept, column as column_of};
+ghost use Rattle.matrix.specs.Matrix.{Powers, Placed, Kept, column};
 
 use crate::multiples::multiples;
 use crate::product::products;
@@ -88,7 +88,7 @@ pub fn powers(p: u64, n: usize, t: &[u64; 16], s: &[u64; 16], m: &mut [u64; 256]
 // Column j of a matrix.
 pub fn column(n: usize, m: &[u64; 256], j: usize) -> [u64; 16]
     requires { (n ≤ 16) × (j < 16) × (length m.now ≡ 256) }
-    ensures { result ≡ padded (column_of n m.now j) }
+    ensures { result ≡ padded (column n m.now j) }
 {
     let mut w = [0; 16];
     for i in 0..n {

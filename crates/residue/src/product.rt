@@ -2,7 +2,7 @@
 // with an odd index bring in into o, one place lower than it counts: so rows are added at even places only, and no word is moved from step to step. The top word
 // of each step goes out as a multiple of T; all others are reduced once, at the end.
 ghost use Rattle.std.specs.Prelude.{◌≡◌, ◌∷◌, ◌+◌, ◌-◌, ◌*◌, ◌/◌, ◌%◌, ◌^◌, ◌≤◌, ◌<◌, length, get_or, set, take, drop, replicate};
-ghost use Rattle.quotient.specs.Residue.{times_x, product as product_of};
+ghost use Rattle.quotient.specs.Residue.{times_x, product};
 ghost use Rattle.array.specs.Array.{padded, Holds};
 ghost use Rattle.modular.specs.Barrett.{Reduces};
 ghost use Rattle.residue.specs.Delayed.{reduced, joined, Added, Half, Halves};
@@ -113,9 +113,9 @@ fn two_steps(
 ) -> u64
     requires reduces { Reduces d × (n ≤ 16) × (i + 2 ≤ n) }
     requires holds { Holds d.p n t.now × Holds d.p n u.now × Holds d.p n v.now }
-    requires halves { Halves d.p n (n - (i + 2)) (i + 2) (product_of d.p (take n t.now) (drop (i + 2) (take n u.now)) (take n v.now)) e.old o.old }
+    requires halves { Halves d.p n (n - (i + 2)) (i + 2) (product d.p (take n t.now) (drop (i + 2) (take n u.now)) (take n v.now)) e.old o.old }
     requires top_word { h ≡ get_or (joined n (i + 2) e.old o.old) (n - 1) 0 }
-    ensures halves_after { Halves d.p n (n - i) i (product_of d.p (take n t.now) (drop i (take n u.now)) (take n v.now)) e.new o.new }
+    ensures halves_after { Halves d.p n (n - i) i (product d.p (take n t.now) (drop i (take n u.now)) (take n v.now)) e.new o.new }
     ensures value { result ≡ get_or (joined n i e.new o.new) (n - 1) 0 }
 {
     let c = u[i];
@@ -141,7 +141,7 @@ fn start(
     requires sizes { (2 ≤ p) × (p ≤ 2 ^ 20) × (1 ≤ n) × (n ≤ 16) }
     requires holds { Holds p n t.now × Holds p n u.now × Holds p n v.now }
     requires zeros { (e.old ≡ replicate 32 0) × (o.old ≡ replicate 32 0) }
-    ensures halves { Halves p n (n - 2 * (n / 2)) (2 * (n / 2)) (product_of p (take n t.now) (drop (2 * (n / 2)) (take n u.now)) (take n v.now)) e.new o.new }
+    ensures halves { Halves p n (n - 2 * (n / 2)) (2 * (n / 2)) (product p (take n t.now) (drop (2 * (n / 2)) (take n u.now)) (take n v.now)) e.new o.new }
     ensures value { result ≡ get_or (joined n (2 * (n / 2)) e.new o.new) (n - 1) 0 }
 {
     if n % 2 == 0 {
@@ -166,7 +166,7 @@ fn accumulate(
     requires reduces { Reduces d × (1 ≤ n) × (n ≤ 16) }
     requires holds { Holds d.p n t.now × Holds d.p n u.now × Holds d.p n v.now }
     requires zeros { (e.old ≡ replicate 32 0) × (o.old ≡ replicate 32 0) }
-    ensures halves { Halves d.p n n 0 (product_of d.p (take n t.now) (take n u.now) (take n v.now)) e.new o.new }
+    ensures halves { Halves d.p n n 0 (product d.p (take n t.now) (take n u.now) (take n v.now)) e.new o.new }
     ensures value { result ≡ get_or (joined n 0 e.new o.new) (n - 1) 0 }
 {
     let mut h = start(d.p, n, t, u, v, e, o);
@@ -257,7 +257,7 @@ pub fn multiply_into(
     requires reduces { Reduces d × (1 ≤ n) × (n ≤ 16) }
     requires holds { Holds d.p n t.now × Holds d.p n u.now × Holds d.p n v.now }
     requires zeros { w.old ≡ replicate 16 0 }
-    ensures { w.new ≡ padded (product_of d.p (take n t.now) (take n u.now) (take n v.now)) }
+    ensures { w.new ≡ padded (product d.p (take n t.now) (take n u.now) (take n v.now)) }
 {
     let mut e = [0; 32];
     let mut o = [0; 32];
@@ -277,7 +277,7 @@ pub fn multiply_times_x_into(
     requires reduces { Reduces d × (1 ≤ n) × (n ≤ 16) }
     requires holds { Holds d.p n t.now × Holds d.p n u.now × Holds d.p n v.now }
     requires zeros { w.old ≡ replicate 16 0 }
-    ensures { w.new ≡ padded (times_x d.p (take n t.now) (product_of d.p (take n t.now) (take n u.now) (take n v.now))) }
+    ensures { w.new ≡ padded (times_x d.p (take n t.now) (product d.p (take n t.now) (take n u.now) (take n v.now))) }
 {
     let mut e = [0; 32];
     let mut o = [0; 32];

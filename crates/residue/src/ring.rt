@@ -1,7 +1,7 @@
 // The ring of residues modulo T, on arrays of 16 words: n words below p, and zeros after them. The functions that reduce words take p with its
 // reciprocal; the calls for other crates work it out once.
 ghost use Rattle.std.specs.Prelude.{◌≡◌, ◌+◌, ◌-◌, ◌*◌, ◌/◌, ◌%◌, ◌^◌, ◌≤◌, ◌<◌, get_or, take, replicate};
-ghost use Rattle.quotient.specs.Residue.{times_x, product as product_of, power as power_of, residue_of_x, substitute as substitute_of};
+ghost use Rattle.quotient.specs.Residue.{times_x, product, power, residue_of_x, substitute};
 ghost use Rattle.array.specs.Array.{padded, Holds};
 ghost use Rattle.modular.specs.Barrett.{Reduces};
 ghost use Rattle.residue.specs.Delayed.{reduced, Delayed, Stepped};
@@ -52,7 +52,7 @@ pub fn times_x(d: Barrett, n: usize, t: &[u64; 16], w: &mut [u64; 16])
 pub fn multiply(d: Barrett, n: usize, t: &[u64; 16], u: &[u64; 16], v: &[u64; 16]) -> [u64; 16]
     requires reduces { Reduces d × (1 ≤ n) × (n ≤ 16) }
     requires holds { Holds d.p n t.now × Holds d.p n u.now × Holds d.p n v.now }
-    ensures { result ≡ padded (product_of d.p (take n t.now) (take n u.now) (take n v.now)) }
+    ensures { result ≡ padded (product d.p (take n t.now) (take n u.now) (take n v.now)) }
 {
     let mut w = [0; 16];
     multiply_into(d, n, t, u, v, &mut w);
@@ -63,7 +63,7 @@ pub fn multiply(d: Barrett, n: usize, t: &[u64; 16], u: &[u64; 16], v: &[u64; 16
 pub fn product(p: u64, n: usize, t: &[u64; 16], u: &[u64; 16], v: &[u64; 16]) -> [u64; 16]
     requires sizes { (2 ≤ p) × (p ≤ 2 ^ 20) × (1 ≤ n) × (n ≤ 16) }
     requires holds { Holds p n t.now × Holds p n u.now × Holds p n v.now }
-    ensures { result ≡ padded (product_of p (take n t.now) (take n u.now) (take n v.now)) }
+    ensures { result ≡ padded (product p (take n t.now) (take n u.now) (take n v.now)) }
 {
     multiply(Barrett::new(p), n, t, u, v)
 }
@@ -94,9 +94,9 @@ fn double(
     w: &mut [u64; 16],
 )
     requires reduces { Reduces d × (1 ≤ n) × (n ≤ 16) }
-    requires holds { Holds d.p n t.now × Holds d.p n u.now × (half.now ≡ padded (power_of d.p (take n t.now) (take n u.now) (e / 2))) }
+    requires holds { Holds d.p n t.now × Holds d.p n u.now × (half.now ≡ padded (power d.p (take n t.now) (take n u.now) (e / 2))) }
     requires zeros { w.old ≡ replicate 16 0 }
-    ensures { w.new ≡ padded (power_of d.p (take n t.now) (take n u.now) e) }
+    ensures { w.new ≡ padded (power d.p (take n t.now) (take n u.now) e) }
 {
     if e % 2 == 0 {
         multiply_into(d, n, t, half, half, w);
@@ -112,7 +112,7 @@ fn power_by_halving(d: Barrett, n: usize, t: &[u64; 16], u: &[u64; 16], e: u64, 
     requires reduces { Reduces d × (1 ≤ n) × (n ≤ 16) }
     requires holds { Holds d.p n t.now × Holds d.p n u.now }
     requires zeros { w.old ≡ replicate 16 0 }
-    ensures { w.new ≡ padded (power_of d.p (take n t.now) (take n u.now) e) }
+    ensures { w.new ≡ padded (power d.p (take n t.now) (take n u.now) e) }
 {
     if e == 0 {
         w[0] = 1;
@@ -131,7 +131,7 @@ fn power_by_halving(d: Barrett, n: usize, t: &[u64; 16], u: &[u64; 16], e: u64, 
 pub fn power(p: u64, n: usize, t: &[u64; 16], u: &[u64; 16], e: u64) -> [u64; 16]
     requires sizes { (2 ≤ p) × (p ≤ 2 ^ 20) × (1 ≤ n) × (n ≤ 16) }
     requires holds { Holds p n t.now × Holds p n u.now }
-    ensures { result ≡ padded (power_of p (take n t.now) (take n u.now) e) }
+    ensures { result ≡ padded (power p (take n t.now) (take n u.now) e) }
 {
     let mut w = [0; 16];
     power_by_halving(Barrett::new(p), n, t, u, e, &mut w);
@@ -141,9 +141,9 @@ pub fn power(p: u64, n: usize, t: &[u64; 16], u: &[u64; 16], e: u64) -> [u64; 16
 // X^e modulo T into w, which is 0, from X^(e / 2): its square, and X times that where e is odd.
 fn raise(d: Barrett, n: usize, t: &[u64; 16], half: &[u64; 16], e: u64, w: &mut [u64; 16])
     requires reduces { Reduces d × (1 ≤ n) × (n ≤ 16) }
-    requires holds { Holds d.p n t.now × (half.now ≡ padded (power_of d.p (take n t.now) (residue_of_x d.p (take n t.now)) (e / 2))) }
+    requires holds { Holds d.p n t.now × (half.now ≡ padded (power d.p (take n t.now) (residue_of_x d.p (take n t.now)) (e / 2))) }
     requires zeros { w.old ≡ replicate 16 0 }
-    ensures { w.new ≡ padded (power_of d.p (take n t.now) (residue_of_x d.p (take n t.now)) e) }
+    ensures { w.new ≡ padded (power d.p (take n t.now) (residue_of_x d.p (take n t.now)) e) }
 {
     if e % 2 == 0 {
         multiply_into(d, n, t, half, half, w);
@@ -157,7 +157,7 @@ fn power_of_x_by_halving(d: Barrett, n: usize, t: &[u64; 16], e: u64, w: &mut [u
     requires reduces { Reduces d × (1 ≤ n) × (n ≤ 16) }
     requires holds { Holds d.p n t.now }
     requires zeros { w.old ≡ replicate 16 0 }
-    ensures { w.new ≡ padded (power_of d.p (take n t.now) (residue_of_x d.p (take n t.now)) e) }
+    ensures { w.new ≡ padded (power d.p (take n t.now) (residue_of_x d.p (take n t.now)) e) }
 {
     if e < n as u64 {
         w[e as usize] = 1;
@@ -172,7 +172,7 @@ fn power_of_x_by_halving(d: Barrett, n: usize, t: &[u64; 16], e: u64, w: &mut [u
 pub fn frobenius_of_x(p: u64, n: usize, t: &[u64; 16]) -> [u64; 16]
     requires sizes { (2 ≤ p) × (p ≤ 2 ^ 20) × (1 ≤ n) × (n ≤ 16) }
     requires holds { Holds p n t.now }
-    ensures { result ≡ padded (power_of p (take n t.now) (residue_of_x p (take n t.now)) p) }
+    ensures { result ≡ padded (power p (take n t.now) (residue_of_x p (take n t.now)) p) }
 {
     let mut w = [0; 16];
     power_of_x_by_halving(Barrett::new(p), n, t, p, &mut w);
@@ -183,7 +183,7 @@ pub fn frobenius_of_x(p: u64, n: usize, t: &[u64; 16]) -> [u64; 16]
 fn horner(d: Barrett, n: usize, t: &[u64; 16], s: &[u64; 16], u: &[u64; 16]) -> [u64; 16]
     requires reduces { Reduces d × (1 ≤ n) × (n ≤ 16) }
     requires holds { Holds d.p n t.now × Holds d.p n s.now × Holds d.p n u.now }
-    ensures { result ≡ padded (substitute_of d.p (take n t.now) (take n s.now) (take n u.now)) }
+    ensures { result ≡ padded (substitute d.p (take n t.now) (take n s.now) (take n u.now)) }
 {
     let mut w = [0; 16];
     w[0] = u[n - 1];
@@ -198,7 +198,7 @@ fn horner(d: Barrett, n: usize, t: &[u64; 16], s: &[u64; 16], u: &[u64; 16]) -> 
 pub fn substitute(p: u64, n: usize, t: &[u64; 16], s: &[u64; 16], u: &[u64; 16]) -> [u64; 16]
     requires sizes { (2 ≤ p) × (p ≤ 2 ^ 20) × (1 ≤ n) × (n ≤ 16) }
     requires holds { Holds p n t.now × Holds p n s.now × Holds p n u.now }
-    ensures { result ≡ padded (substitute_of p (take n t.now) (take n s.now) (take n u.now)) }
+    ensures { result ≡ padded (substitute p (take n t.now) (take n s.now) (take n u.now)) }
 {
     horner(Barrett::new(p), n, t, s, u)
 }
