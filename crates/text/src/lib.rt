@@ -1,7 +1,8 @@
 // Text in a lent list of bytes. Each function writes from the place `at` on and answers the place
 // behind what it wrote, so that a line is one call behind another. Only this repository calls these
-// functions, so they state what they require. The digits are computed here: there is no heap for a
-// String, and `write!` gives a caller no promise of the digits and of the room left in a lent list.
+// functions, so they state what they require. List and place are no struct: it would hold a `&mut`,
+// and each function would need one more clause, that the list is still the same. The digits are
+// computed here, since `write!` would need such a struct to write to.
 //   bytes         a byte, a list of bytes
 //   hexadecimal   bytes in upper-case hexadecimal
 //   decimal       numbers in decimal

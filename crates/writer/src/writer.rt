@@ -1,4 +1,5 @@
 // The writer of cards. Every byte is a function of its place, and nothing is written before the last refusal is decided.
+// A kind is its number here: the caller gives it so, and the card has its bits.
 ghost use Rattle.std.specs.Prelude.{[], ◌≡◌, ◌*◌, ◌≤◌, ◌<◌, length, get_or};
 ghost use Rattle.refusal.specs.Number.{number_of};
 ghost use Rattle.card.specs.Bits.{unpacked};
