@@ -10,10 +10,8 @@ pub fn power(p: usize, k: usize) -> usize
     ensures { result ≡ p ^ k }
 {
     let mut r = 1;
-    let mut i = 0;
-    while i < k {
-        r = r * p;
-        i += 1;
+    for _ in 0..k {
+        r *= p;
     }
     r
 }
@@ -40,10 +38,8 @@ pub fn write_digits(p: u32, c: u32, out: &mut [Word])
     ensures { out.new ≡ digits p (length out.old) c }
 {
     let mut rest = c;
-    let mut i = 0;
-    while i < out.len() {
-        out[i] = lowest(p, rest);
+    for word in out.iter_mut() {
+        *word = lowest(p, rest);
         rest = others(p, rest);
-        i += 1;
     }
 }

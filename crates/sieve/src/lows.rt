@@ -21,10 +21,8 @@ fn collect(p: u16, count: usize, s: u16, xs: &[u16; 32768], codes: &mut [u16; 32
     requires words_below { WordsBelow p count xs.now × WordsBelow 256 count codes.old }
     ensures { Collected p count s xs.now codes.old codes.new }
 {
-    let mut h = 0;
-    while h < count {
+    for h in 0..count {
         codes[h] = append(p, codes[h], add(p, xs[h], s));
-        h += 1;
     }
 }
 
@@ -33,11 +31,7 @@ fn clear(count: usize, codes: &mut [u16; 32768])
     requires { (count ≤ 32768) × (length codes.old ≡ 32768) }
     ensures { WordsBelow 1 count codes.new }
 {
-    let mut h = 0;
-    while h < count {
-        codes[h] = 0;
-        h += 1;
-    }
+    codes[..count].fill(0);
 }
 
 // The lower words of the multiples of D of degree n + k: the number for the higher words h, an integer below p^k. The array xs is lent for the words.
@@ -56,9 +50,7 @@ pub fn lows(
     ensures lows { Lows d.p (take n t.now) k 0 codes.new }
 {
     clear(count, codes);
-    let mut j = n;
-    while j > 0 {
-        j -= 1;
+    for j in (0..n).rev() {
         let s = plane(d, n, k, t, j, xs);
         collect(narrow(d.p), count, s, xs, codes);
     }

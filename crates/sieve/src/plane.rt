@@ -1,6 +1,6 @@
 // Word j of H·D modulo D, where D stands for its lower words, for all lists H of k words at once: that for the list with the number x in base p is word x of an array. With each
 // further word of H there are p times as many, in p blocks: block a has the words so far, each plus a times word j of X^k·D.
-ghost use Rattle.std.specs.Prelude.{◌⊎◌, ◌≡◌, ◌+◌, ◌*◌, ◌%◌, ◌^◌, ◌≤◌, ◌<◌, length, get_or, take};
+ghost use Rattle.std.specs.Prelude.{◌≡◌, ◌+◌, ◌*◌, ◌%◌, ◌^◌, ◌≤◌, ◌<◌, length, get_or, take};
 ghost use Rattle.array.specs.Array.{Holds};
 ghost use Rattle.matrix.specs.Matrix.{multiple};
 ghost use Rattle.modular.specs.Barrett.{Reduces};
@@ -26,23 +26,14 @@ pub fn narrow(x: u64) -> u16
     x as u16
 }
 
-// The smaller of two numbers.
-fn smaller(a: usize, b: usize) -> usize
-    ensures { (result ≤ a) × (result ≤ b) × ((result ≡ a) ⊎ (result ≡ b)) }
-{
-    if a < b { a } else { b }
-}
-
 // The block from word `to` on: the first words, each plus v.
 fn add_block(p: u16, size: usize, to: usize, v: u16, xs: &mut [u16; 32768])
     requires p_bound { (p ≤ 256) × (v < p) × (size ≤ to) × (to + size ≤ 32768) }
     requires words_below { WordsBelow p size xs.old }
     ensures { Block p size to v xs.old xs.new }
 {
-    let mut x = 0;
-    while x < size {
+    for x in 0..size {
         xs[to + x] = add(p, xs[x], v);
-        x += 1;
     }
 }
 
@@ -58,7 +49,7 @@ fn extend(p: u16, size: usize, c: u16, xs: &mut [u16; 32768]) -> usize
     let mut v = c;
     let mut to = size;
     while to < end {
-        let more = smaller(to, end - to);
+        let more = to.min(end - to);
         add_block(p, more, to, v, xs);
         v = add(p, v, v);
         to += more;
@@ -85,11 +76,9 @@ pub fn plane(d: Barrett, n: usize, k: usize, t: &[u64; 16], j: usize, xs: &mut [
     let mut w = *t;
     let mut size = 1;
     xs[0] = 0;
-    let mut i = 0;
-    while i < k {
+    for _ in 0..k {
         size = extend(p, size, word(d.p, n, j, &w), xs);
         times_x(d, n, t, &mut w);
-        i += 1;
     }
     word(d.p, n, j, &w)
 }

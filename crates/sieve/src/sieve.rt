@@ -21,12 +21,10 @@ fn strike_degree(
     ensures progress { Progress p m (n + 1) 0 marks.new × Outside p m marks.old marks.new }
 {
     let size = power(p as usize, n);
-    let mut c = 0;
-    while c < size {
+    for c in 0..size {
         if marks[size + c] == 0 {
             strike_multiples(p, n, c as u32, m, xs, codes, marks);
         }
-        c += 1;
     }
 }
 
@@ -44,11 +42,8 @@ fn sieve_degree(
     ensures xs_len_2 { (length xs.new ≡ 32768) × (length codes.new ≡ 32768) }
     ensures sieved { Sieved p m marks.new × Outside p m marks.old marks.new }
 {
-    let half = m / 2;
-    let mut n = 1;
-    while n <= half {
+    for n in 1..m / 2 + 1 {
         strike_degree(p, n, m, xs, codes, marks);
-        n += 1;
     }
 }
 
@@ -60,11 +55,8 @@ pub fn sieve(p: u32, n: usize, marks: &mut [u8; 131072])
 {
     let mut xs = [0; 32768];
     let mut codes = [0; 32768];
-    let half = n / 2;
-    let mut m = 1;
-    while m <= half {
+    for m in 1..n / 2 + 1 {
         sieve_degree(p, m, &mut xs, &mut codes, marks);
-        m += 1;
     }
     sieve_degree(p, n, &mut xs, &mut codes, marks);
 }

@@ -10,13 +10,6 @@ use array::Word;
 use array::copy::load;
 use modular::barrett::Barrett;
 
-// A word of 16 bits as an index.
-fn wide(x: u16) -> usize
-    ensures { result ≡ x }
-{
-    x as usize
-}
-
 // Marks word base + h·q + codes[h], for each h below count.
 fn strike(base: usize, q: usize, count: usize, codes: &[u16; 32768], marks: &mut [u8; 131072])
     requires base_bound { (base ≤ 65536) × (count * q ≤ base) × (count ≤ 32768) × Room marks.old }
@@ -24,11 +17,9 @@ fn strike(base: usize, q: usize, count: usize, codes: &[u16; 32768], marks: &mut
     ensures { Struck base q count codes.now marks.old marks.new }
 {
     let mut from = base;
-    let mut h = 0;
-    while h < count {
-        marks[from + wide(codes[h])] = 1;
+    for h in 0..count {
+        marks[from + usize::from(codes[h])] = 1;
         from += q;
-        h += 1;
     }
 }
 

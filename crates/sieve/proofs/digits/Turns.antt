@@ -44,7 +44,7 @@ rest_digit p c i rest r f e = f ∙ ap (λ x. x % p) e
 pub rest_turn : (p c i rest r : ℕ) → r ≡ rest / p → rest ≡ c / p ^ i → r ≡ c / p ^ (i + 1)
 rest_turn p c i rest r f e = f ∙ ap (λ x. x / p) e ∙ next_digit p i c
 
-pub digits_written : (p c i : ℕ) (out₀ out : List ℕ) → i ≤ length out₀ → length out ≤ i → length out ≡ length out₀ → out ≡ painted out₀ (digit_of p c) i
+pub digits_written : (p c i : ℕ) (out₀ out : List ℕ) → i ≤ length out₀ → length out₀ ≤ i → out ≡ painted out₀ (digit_of p c) i
     → out ≡ digits p (length out₀) c
 unfolding digit_of
-digits_written p c i out₀ out l l' same e = painted-range (digit_of p c) (length out₀) i out₀ out refl l (omega arith) e ∙ sym (digits-range p (length out₀) c)
+digits_written p c i out₀ out l l' e = painted-range (digit_of p c) (length out₀) i out₀ out refl l (omega arith) e ∙ sym (digits-range p (length out₀) c)

@@ -4,7 +4,7 @@
 use mathlib.Core.Path.{◌≡◌, refl, sym, ap, ap₂, subst, ◌∙◌}
 use mathlib.Core.List.{List}
 use mathlib.Core.Logic.{◌⊎◌, inl, inr, ⊎_elim}
-use Prim.Native.Nat.{ℕ, suc, ◌+◌, ◌-◌, ◌*◌, ◌%◌, ◌≤◌, ◌<◌}
+use Prim.Native.Nat.{ℕ, min, suc, ◌+◌, ◌-◌, ◌*◌, ◌%◌, ◌≤◌, ◌<◌}
 use native.Mathlib.Decide.{dec_le, dec_lt}
 use native.Mathlib.Nat as Nat
 use native.Mathlib.Omega.{arith}
@@ -142,8 +142,15 @@ module _ (p size c to v more end : ℕ) (xs₀ xs ys : List ℕ) (h : Doubled p 
       let whole : h.blocks + (p - h.blocks) ≡ p = omega (arith, h.most) in
       (p - h.blocks, f ∙ omega (arith, e, h.place, ap (λ k. k * size) whole), inr whole)
 
-  pub doubled_turn : (v' : ℕ) → (more ≡ to) ⊎ (more ≡ end - to) → more ≤ to → more ≤ end - to → v' ≡ (v + v) % p → Block p more to v xs ys → Doubled p size c (to + more) v' xs₀ ys
-  doubled_turn v' choice first second f b = by_count (added choice)
+  choice : more ≡ min to (end - to) → (more ≡ to) ⊎ (more ≡ end - to)
+  choice least = by_size (dec_lt to (end - to))
+    where
+      by_size : Dec (to < end - to) → (more ≡ to) ⊎ (more ≡ end - to)
+      by_size (yes l) = inl (omega arith)
+      by_size (no l) = inr (omega arith)
+
+  pub doubled_turn : (v' : ℕ) → more ≡ min to (end - to) → v' ≡ (v + v) % p → Block p more to v xs ys → Doubled p size c (to + more) v' xs₀ ys
+  doubled_turn v' least f b = by_count (added (choice least))
     where
       by_count : (k : ℕ) × (more ≡ k * size) × ((k ≡ h.blocks) ⊎ (h.blocks + k ≡ p)) → Doubled p size c (to + more) v' xs₀ ys
       by_count (k, g, count) =
@@ -176,6 +183,3 @@ doubled_end p size c to v end xs₀ xs h filled e l = subst (λ a. Extended p a 
 
 pub first_end : (p size end : ℕ) → 2 ≤ p → end ≡ p * size → size ≤ end
 first_end p size end big e = let up : 2 * size ≤ p * size = Nat.mul-le-mul_right size big in omega arith
-
-pub more_less : (to more end : ℕ) → (more ≡ to) ⊎ (more ≡ end - to) → 1 ≤ to → to < end → end - (to + more) < end - to
-more_less to more end choice some less = ⊎_elim (λ e. omega arith) (λ e. omega arith) choice

@@ -49,11 +49,11 @@ sieving_none p m xs codes marks room_xs room_codes room clear =
     }
 
 module _ (p m n : ℕ) (xs codes old marks : List ℕ) (h : Sieving p m n xs codes old marks) where
-  pub lower_sieved : 2 ≤ p → SievedBelow p (m / 2 + 1) old → n ≤ m / 2 → Sieved p n marks
+  pub lower_sieved : 2 ≤ p → SievedBelow p (m / 2 + 1) old → n < m / 2 + 1 → Sieved p n marks
   lower_sieved big below l =
       sieved_kept p n m old marks big (omega (arith, h.low)) h.outside (below.each n h.low (omega arith))
 
-  pub sieving_turn : n ≤ m / 2 → (xs' codes' new : List ℕ) → length xs' ≡ 32768 → length codes' ≡ 32768 → Progress p m (n + 1) 0 new → Outside p m marks new
+  pub sieving_turn : n < m / 2 + 1 → (xs' codes' new : List ℕ) → length xs' ≡ 32768 → length codes' ≡ 32768 → Progress p m (n + 1) 0 new → Outside p m marks new
       → Sieving p m (n + 1) xs' codes' old new
   sieving_turn l xs' codes' new room_xs room_codes progress outside =
       record {
@@ -65,7 +65,7 @@ module _ (p m n : ℕ) (xs codes old marks : List ℕ) (h : Sieving p m n xs cod
         outside = outside_more p m old marks new h.outside outside;
       }
 
-  module _ (big : 2 ≤ p) (end : m / 2 < n) where
+  module _ (big : 2 ≤ p) (end : m / 2 + 1 ≤ n) where
     words : (i : ℕ) → Words p m (digits p m i)
     words i = digits_words p m i (omega arith)
 

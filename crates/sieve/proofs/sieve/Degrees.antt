@@ -42,7 +42,7 @@ below_fewer p d e marks l h = record { each = λ i positive b. h.each i positive
 
 module _ (p n m : ℕ) (xs codes marks : List ℕ) (big : 2 ≤ p) (h : Degrees p n m xs codes marks) where
   -- degree m
-  pub degree_fits : m ≤ n / 2 → p ^ n ≤ 65536 → p ^ m ≤ 65536
+  pub degree_fits : m < n / 2 + 1 → p ^ n ≤ 65536 → p ^ m ≤ 65536
   degree_fits l small = let r : p ^ m ≤ p ^ n = power_monotone p big m n (omega arith) in omega arith
 
   pub degree_below : SievedBelow p (m / 2 + 1) marks
@@ -58,7 +58,7 @@ module _ (p n m : ℕ) (xs codes marks : List ℕ) (big : 2 ≤ p) (h : Degrees 
         let twice : p ^ m + p ^ m ≤ p ^ (m + 1) = power_doubles p big m (m + 1) (omega arith) in
         outside.words i (inr (omega arith)) ∙ h.clear.words i (omega arith)
 
-    pub degrees_turn : m ≤ n / 2 → (xs' codes' : List ℕ) → length xs' ≡ 32768 → length codes' ≡ 32768 → Degrees p n (m + 1) xs' codes' new
+    pub degrees_turn : m < n / 2 + 1 → (xs' codes' : List ℕ) → length xs' ≡ 32768 → length codes' ≡ 32768 → Degrees p n (m + 1) xs' codes' new
     degrees_turn l xs' codes' room_xs room_codes =
         record {
           low = omega arith;
@@ -71,7 +71,7 @@ module _ (p n m : ℕ) (xs codes marks : List ℕ) (big : 2 ≤ p) (h : Degrees 
         }
 
   -- degree n
-  module _ (end : n / 2 < m) where
+  module _ (end : n / 2 + 1 ≤ m) where
     pub last_below : SievedBelow p (n / 2 + 1) marks
     last_below = below_fewer p (n / 2 + 1) m marks (omega arith) h.below
 

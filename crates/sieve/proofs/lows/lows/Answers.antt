@@ -6,7 +6,7 @@ pub clear-requires : goal.clear-requires
 clear-requires c = (search count_few, search rules)
 
 pub loop-j-init : goal.loop-j-init
-loop-j-init c = (search rules, search rules, search lows_begun)
+loop-j-init c = (search rules, search lows_begun)
 
 pub plane-s-requires-clause-reduces : goal.plane-s-requires-clause-reduces
 plane-s-requires-clause-reduces c = (search rules, search prime_few, search rules, search rules, search rules, search lows_few)
@@ -21,4 +21,4 @@ pub collect-requires-clause-words_below : goal.collect-requires-clause-words_bel
 collect-requires-clause-words_below c = (search digit_plane, search lows_below)
 
 pub loop-j-preserved : goal.loop-j-preserved
-loop-j-preserved c = (search rules, search rules, search lows_turn)
+loop-j-preserved c = (search rules, search lows_turn)

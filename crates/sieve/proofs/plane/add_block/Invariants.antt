@@ -1,10 +1,6 @@
 -- Before turn x the first x words of the block are there.
-use Prim.Native.Nat.{◌-◌, ◌≤◌}
 use Rattle.sieve.specs.Clauses.{Block}
 use Rattle.sieve.proofs.plane.add_block.Given as goal
 
 abbrev pub invariant-loop-x : goal.invariant-loop-x
-invariant-loop-x l = (l.x ≤ l.size) × Block l.p l.x l.to l.v l.initial.xs l.xs
-
-abbrev pub decreases-loop-x : goal.decreases-loop-x
-decreases-loop-x l = l.size - l.x
+invariant-loop-x l = Block l.p l.x l.to l.v l.initial.xs l.xs

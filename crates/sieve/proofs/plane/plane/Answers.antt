@@ -3,8 +3,8 @@ use Rattle.sieve.proofs.digits.Turns.{power_none}
 use Rattle.sieve.proofs.plane.Planes.{shifted_holds, shifted_first, shifted_turn, shifted_end, plane_below, plane_first, plane_turn, plane_some, plane_room, plane_power}
 use Rattle.sieve.proofs.plane.plane.Goals as goal
 
-pub loop-i-init : goal.loop-i-init
-loop-i-init c = (search rules, search rules, search power_none, search shifted_first, search rules, search plane_first)
+pub loop-init : goal.loop-init
+loop-init c = (search rules, search power_none, search shifted_first, search rules, search plane_first)
 
 pub extend-size-requires-clause-le_p : goal.extend-size-requires-clause-le_p
 extend-size-requires-clause-le_p c = (search rules, search rules, search rules, search plane_some, search plane_room)
@@ -12,8 +12,8 @@ extend-size-requires-clause-le_p c = (search rules, search rules, search rules, 
 pub extend-size-requires-clause-words_below : goal.extend-size-requires-clause-words_below
 extend-size-requires-clause-words_below c = search plane_below
 
-pub loop-i-preserved : goal.loop-i-preserved
-loop-i-preserved c = (search rules, search rules, search plane_power, search shifted_turn, search shifted_holds, search plane_turn)
+pub loop-preserved : goal.loop-preserved
+loop-preserved c = (search rules, search plane_power, search shifted_turn, search shifted_holds, search plane_turn)
 
 pub returns-clause-value : goal.returns-clause-value
 returns-clause-value c = search shifted_end

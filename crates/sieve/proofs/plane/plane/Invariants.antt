@@ -1,14 +1,13 @@
 -- Before turn i there are the words for all H of i words, size of them, and w is X^i·D.
 use mathlib.Core.Path.{◌≡◌}
-use Prim.Native.Nat.{◌-◌, ◌^◌, ◌≤◌}
+use Prim.Native.Nat.{◌^◌}
 use lib.ListN.{take}
 use Rattle.array.specs.Array.{padded, Holds}
 use Rattle.matrix.specs.Matrix.{multiple}
 use Rattle.sieve.specs.Clauses.{Plane}
 use Rattle.sieve.proofs.plane.plane.Given as goal
 
-abbrev pub invariant-loop-i : goal.invariant-loop-i
-invariant-loop-i l = (l.i ≤ l.k) × (l.p ≡ l.d.p) × (l.size ≡ l.d.p ^ l.i) × (l.w ≡ padded (multiple l.d.p (take l.n l.t) (take l.n l.t) l.i)) × Holds l.d.p l.n l.w × Plane l.d.p (take l.n l.t) l.i l.j l.xs
-
-abbrev pub decreases-loop-i : goal.decreases-loop-i
-decreases-loop-i l = l.k - l.i
+abbrev pub invariant-loop : goal.invariant-loop
+invariant-loop l =
+    (l.p ≡ l.d.p) × (l.size ≡ l.d.p ^ l.counter) × (l.w ≡ padded (multiple l.d.p (take l.n l.t) (take l.n l.t) l.counter)) × Holds l.d.p l.n l.w
+    × Plane l.d.p (take l.n l.t) l.counter l.j l.xs

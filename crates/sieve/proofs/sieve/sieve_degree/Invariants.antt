@@ -1,10 +1,6 @@
 -- Before degree n the multiples of the polynomials of lower degree are struck out.
-use Prim.Native.Nat.{◌+◌, ◌-◌}
 use Rattle.sieve.proofs.sieve.Degree.{Sieving}
 use Rattle.sieve.proofs.sieve.sieve_degree.Given as goal
 
 abbrev pub invariant-loop-n : goal.invariant-loop-n
 invariant-loop-n l = Sieving l.p l.m l.n l.xs l.codes l.initial.marks l.marks
-
-abbrev pub decreases-loop-n : goal.decreases-loop-n
-decreases-loop-n l = l.half + 1 - l.n

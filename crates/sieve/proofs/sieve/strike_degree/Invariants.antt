@@ -1,10 +1,6 @@
 -- Before turn c the multiples of the polynomials of degree n with a code below p^n + c are struck out.
-use Prim.Native.Nat.{◌-◌}
 use Rattle.sieve.proofs.sieve.Passing.{Passing}
 use Rattle.sieve.proofs.sieve.strike_degree.Given as goal
 
 abbrev pub invariant-loop-c : goal.invariant-loop-c
 invariant-loop-c l = Passing l.p l.n l.m l.size l.c l.xs l.codes l.initial.marks l.marks
-
-abbrev pub decreases-loop-c : goal.decreases-loop-c
-decreases-loop-c l = l.size - l.c

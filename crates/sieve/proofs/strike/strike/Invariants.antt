@@ -1,10 +1,6 @@
 -- Before turn h the words of the first h blocks are struck out.
-use Prim.Native.Nat.{◌-◌}
 use Rattle.sieve.proofs.strike.Strikes.{Striking}
 use Rattle.sieve.proofs.strike.strike.Given as goal
 
 abbrev pub invariant-loop-h : goal.invariant-loop-h
 invariant-loop-h l = Striking l.base l.q l.count l.h l.from l.codes l.initial.marks l.marks
-
-abbrev pub decreases-loop-h : goal.decreases-loop-h
-decreases-loop-h l = l.count - l.h
