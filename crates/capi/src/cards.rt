@@ -3,6 +3,7 @@ ghost use Rattle.std.specs.Prelude.{◌≡◌};
 ghost use Rattle.card.specs.Card.{read_number, read_prime, read_degree, read_kind, read_output, write_number, write_output};
 
 use array::Word;
+use refusal::number_of;
 
 // The reader's answer; refused, every field but the number is 0.
 #[repr(C)]
@@ -23,12 +24,19 @@ pub extern "C" fn yokebean_card_read(bytes: &[u8], words: &mut [Word]) -> CardVa
     ensures kind_value { result.kind ≡ read_kind bytes.now words.old }
     ensures words_after { words.new ≡ read_output bytes.now words.old }
 {
-    let found = reader::reader::read(bytes, words);
-    CardValue {
-        number: found.number,
-        p: found.p,
-        n: found.n,
-        kind: found.kind,
+    match reader::reader::read(bytes, words) {
+        Ok(card) => CardValue {
+            number: 0,
+            p: card.p,
+            n: card.n,
+            kind: card.kind.into(),
+        },
+        Err(refusal) => CardValue {
+            number: refusal.into(),
+            p: 0,
+            n: 0,
+            kind: 0,
+        },
     }
 }
 
@@ -44,5 +52,5 @@ pub extern "C" fn yokebean_card_write(
     ensures value { result ≡ write_number p n kind words.now bytes.old }
     ensures bytes_after { bytes.new ≡ write_output p n kind words.now bytes.old }
 {
-    writer::writer::write(p, n, kind, words, bytes)
+    number_of(writer::writer::write(p, n, kind, words, bytes))
 }

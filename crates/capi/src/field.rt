@@ -16,7 +16,7 @@ use refusal::number_of;
 pub extern "C" fn yokebean_irreducible(p: u32, n: u32, t: &[Word]) -> u32
     ensures { result ≡ irreducible_number p n t.now }
 {
-    irreducible::call::irreducible(p, n, t)
+    number_of(irreducible::call::irreducible(p, n, t))
 }
 
 // Whether neither modulus has a monic divisor of degree 1 to n − 1 and the four congruences hold, so that S and R are inverse isomorphisms of fields: 0, or 1, 2, 3, 4,
@@ -32,7 +32,7 @@ pub extern "C" fn yokebean_check(
 ) -> u32
     ensures { result ≡ check_number p n t1.now t2.now s.now r.now }
 {
-    pair::checker::check(p, n, t1, t2, s, r)
+    number_of(pair::checker::check(p, n, t1, t2, s, r))
 }
 
 // out := all n polynomials S' with T1(S') = 0 modulo T2, from an accepted pair, in ascending order: 0, or 1, 2, 3, 4, 6, 7, 8.
@@ -49,7 +49,7 @@ pub extern "C" fn yokebean_maps(
     ensures value { result ≡ maps_number p n t1.now t2.now s.now r.now out.old }
     ensures out_after { out.new ≡ maps_output p n t1.now t2.now s.now r.now out.old }
 {
-    maps::call::maps(p, n, t1, t2, s, r, out)
+    number_of(maps::call::maps(p, n, t1, t2, s, r, out))
 }
 
 // forward := the matrix of u ↦ u(S) modulo T2, back := that of u ↦ u(R) modulo T1, each row after row: 0, or 1, 2, 3, 4, 6, 7, 8.
@@ -68,7 +68,7 @@ pub extern "C" fn yokebean_matrices(
     ensures forward_after { forward.new ≡ forward_output p n t1.now t2.now s.now r.now forward.old back.old }
     ensures back_after { back.new ≡ back_output p n t1.now t2.now s.now r.now forward.old back.old }
 {
-    bymatrix::build::matrices(p, n, t1, t2, s, r, forward, back)
+    number_of(bymatrix::build::matrices(p, n, t1, t2, s, r, forward, back))
 }
 
 // out := the matrix times each group of n words of the table: 0, or 1, 2, 3, 9, 10, 4.
@@ -83,7 +83,7 @@ pub extern "C" fn yokebean_matrix_convert(
     ensures value { result ≡ by_matrix_number p n matrix.now table.now out.old }
     ensures out_after { out.new ≡ by_matrix_output p n matrix.now table.now out.old }
 {
-    bymatrix::convert::convert_by_matrix(p, n, matrix, table, out)
+    number_of(bymatrix::convert::convert_by_matrix(p, n, matrix, table, out))
 }
 
 // out := T1, T2, S and R printed on a sheet: 0, or 1, 2, 3, 4, 6, 7, 8.
@@ -100,7 +100,7 @@ pub extern "C" fn yokebean_sheet(
     ensures value { result ≡ sheet_number p n t1.now t2.now s.now r.now out.old }
     ensures out_after { out.new ≡ sheet_output p n t1.now t2.now s.now r.now out.old }
 {
-    sheet::print::sheet(p, n, t1, t2, s, r, out)
+    number_of(sheet::print::sheet(p, n, t1, t2, s, r, out))
 }
 
 // The length of a sheet for lists of n words.
@@ -125,7 +125,7 @@ pub extern "C" fn yokebean_find(
     ensures s_after { s.new ≡ find_output_s p n t1.now t2.now s.old r.old }
     ensures r_after { r.new ≡ find_output_r p n t1.now t2.now s.old r.old }
 {
-    finder::find::find(p, n, t1, t2, s, r)
+    number_of(finder::find::find(p, n, t1, t2, s, r))
 }
 
 // out := u(S) modulo T: 0, or 1 to 4.

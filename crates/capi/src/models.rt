@@ -3,6 +3,7 @@ ghost use Rattle.std.specs.Prelude.{◌≡◌};
 ghost use Rattle.catalogue.specs.Catalogue.{count_number, model_count, list_number, list_output};
 
 use array::Word;
+use refusal::number_of;
 
 // The answer of the first call; refused, the count is 0.
 #[repr(C)]
@@ -18,10 +19,12 @@ pub extern "C" fn yokebean_catalogue_count(p: u32, n: u32) -> CountValue
     ensures number_value { result.number ≡ count_number p n }
     ensures count_value { result.count ≡ model_count p n }
 {
-    let found = catalogue::call::count_models(p, n);
-    CountValue {
-        number: found.number,
-        count: found.count,
+    match catalogue::call::count_models(p, n) {
+        Ok(count) => CountValue { number: 0, count },
+        Err(refusal) => CountValue {
+            number: refusal.into(),
+            count: 0,
+        },
     }
 }
 
@@ -31,5 +34,5 @@ pub extern "C" fn yokebean_catalogue_list(p: u32, n: u32, out: &mut [Word]) -> u
     ensures value { result ≡ list_number p n out.old }
     ensures out_after { out.new ≡ list_output p n out.old }
 {
-    catalogue::call::list_models(p, n, out)
+    number_of(catalogue::call::list_models(p, n, out))
 }

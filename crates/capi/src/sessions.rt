@@ -17,8 +17,8 @@ use running::begin::begin as begin_table;
 use running::end::end as end_table;
 use running::feed::feed as feed_table;
 use session::holding::placed;
+use work::Work;
 use work::addressed::addressed;
-use work::{Work, WorkStep};
 
 // A new session: empty, without records and without an open table.
 #[unsafe(no_mangle)]
@@ -59,12 +59,8 @@ pub extern "C" fn yokebean_session_load(
     ensures { result ≡ step_of session (load (session_of session) p n t1.now t2.now) }
 {
     let x = counted_value(session);
-    let found = x.work;
-    work_answers(
-        session,
-        x.valid,
-        placed(found, load_held(addressed(found), p, n, t1, t2)),
-    )
+    let held = load_held(addressed(x.work), p, n, t1, t2);
+    work_answers(session, x.valid, placed(x.work, held))
 }
 
 // Loaded to paired, if the checker accepts: 0, or 21, 24, 3, 4, 6, 7, 8.
@@ -77,12 +73,8 @@ pub extern "C" fn yokebean_session_propose(
     ensures { result ≡ step_of session (propose (session_of session) s.now r.now) }
 {
     let x = counted_value(session);
-    let found = x.work;
-    work_answers(
-        session,
-        x.valid,
-        placed(found, propose_held(addressed(found), s, r)),
-    )
+    let held = propose_held(addressed(x.work), s, r);
+    work_answers(session, x.valid, placed(x.work, held))
 }
 
 // Loaded to paired, with the finder's pair: 0, or 21, 24, 5, 6, 7.
@@ -91,8 +83,8 @@ pub extern "C" fn yokebean_session_find(session: SessionValue) -> StepValue
     ensures { result ≡ step_of session (find (session_of session)) }
 {
     let x = counted_value(session);
-    let found = x.work;
-    work_answers(session, x.valid, placed(found, find_held(addressed(found))))
+    let held = find_held(addressed(x.work));
+    work_answers(session, x.valid, placed(x.work, held))
 }
 
 // out := the images of a table of residues modulo T1, by S, modulo T2: 0, or 21, 22, 27, 9, 10, 4, 25.
@@ -106,11 +98,8 @@ pub extern "C" fn yokebean_session_forward(
     ensures out_after { out.new ≡ convert_output Forward (session_of session) table.now out.old }
 {
     let x = counted_value(session);
-    let found = x.work;
-    record_answers(
-        session,
-        convert_table(Direction::Forward, found, x.count, table, out),
-    )
+    let answer = convert_table(Direction::Forward, x.work, x.count, table, out);
+    record_answers(session, answer)
 }
 
 // out := the images of a table of residues modulo T2, by R, modulo T1: 0, or 21, 22, 27, 9, 10, 4, 25.
@@ -124,11 +113,8 @@ pub extern "C" fn yokebean_session_back(
     ensures out_after { out.new ≡ convert_output Back (session_of session) table.now out.old }
 {
     let x = counted_value(session);
-    let found = x.work;
-    record_answers(
-        session,
-        convert_table(Direction::Back, found, x.count, table, out),
-    )
+    let answer = convert_table(Direction::Back, x.work, x.count, table, out);
+    record_answers(session, answer)
 }
 
 // Opens a table of residues modulo T1, for images by S modulo T2: 0, or 21, 22, 27, 25.
@@ -137,12 +123,8 @@ pub extern "C" fn yokebean_session_begin_forward(session: SessionValue) -> StepV
     ensures { result ≡ step_of session (begin Forward (session_of session)) }
 {
     let x = counted_value(session);
-    let found = x.work;
-    work_answers(
-        session,
-        x.valid,
-        begin_table(Direction::Forward, found, x.count),
-    )
+    let answer = begin_table(Direction::Forward, x.work, x.count);
+    work_answers(session, x.valid, answer)
 }
 
 // Opens a table of residues modulo T2, for images by R modulo T1: 0, or 21, 22, 27, 25.
@@ -151,12 +133,8 @@ pub extern "C" fn yokebean_session_begin_back(session: SessionValue) -> StepValu
     ensures { result ≡ step_of session (begin Back (session_of session)) }
 {
     let x = counted_value(session);
-    let found = x.work;
-    work_answers(
-        session,
-        x.valid,
-        begin_table(Direction::Back, found, x.count),
-    )
+    let answer = begin_table(Direction::Back, x.work, x.count);
+    work_answers(session, x.valid, answer)
 }
 
 // out := the images of a part of the open table, by the pair with which it began: 0, or 26, 9, 10, 4.
@@ -170,8 +148,7 @@ pub extern "C" fn yokebean_session_feed(
     ensures out_after { out.new ≡ feed_output (session_of session) table.now out.old }
 {
     let x = counted_value(session);
-    let found = x.work;
-    work_answers(session, x.valid, feed_table(found, table, out))
+    work_answers(session, x.valid, feed_table(x.work, table, out))
 }
 
 // Closes the open table, with one record of all its residues; a paired waiting session becomes the current one: 0, or 26.
@@ -180,8 +157,7 @@ pub extern "C" fn yokebean_session_end(session: SessionValue) -> StepValue
     ensures { result ≡ step_of session (end (session_of session)) }
 {
     let x = counted_value(session);
-    let found = x.work;
-    record_answers(session, end_table(found))
+    record_answers(session, end_table(x.work))
 }
 
 // How long the report is.
@@ -198,10 +174,12 @@ pub extern "C" fn yokebean_session_report(session: SessionValue, out: &mut [u8])
     ensures value { result ≡ given_back session (report (session_of session) out.old) }
     ensures out_after { out.new ≡ report_output (session_of session) out.old }
 {
-    let step = session_of(session).report(out);
-    StepValue {
-        number: step.number,
-        session: session,
+    match session_of(session).report(out) {
+        Ok(_) => StepValue { number: 0, session },
+        Err(refused) => StepValue {
+            number: refused.refusal.into(),
+            session,
+        },
     }
 }
 
@@ -211,10 +189,5 @@ pub extern "C" fn yokebean_session_clear(session: SessionValue) -> StepValue
     ensures { result ≡ step_of session (clear (session_of session)) }
 {
     let x = counted_value(session);
-    let empty = Work::new();
-    let answer = WorkStep {
-        number: 0,
-        work: empty,
-    };
-    work_answers(session, x.valid, answer)
+    work_answers(session, x.valid, Ok(Work::new()))
 }

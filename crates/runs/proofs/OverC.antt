@@ -14,12 +14,11 @@ use Rattle.ledger.specs.declared.Ledger.{Ledger}
 use Rattle.ledger.specs.declared.Record.{Record}
 use Rattle.ledger.proofs.Theorem.{added_behind}
 use Rattle.work.specs.Work.{new_work}
-use Rattle.work.specs.declared.RecordStep.{RecordStep}
-use Rattle.work.specs.declared.WorkStep.{WorkStep}
+use Rattle.work.specs.Step.{WorkStep, RecordStep}
 use Rattle.session.specs.Session.{new_session, counted, answer, step_with, record_with}
 use Rattle.runs.specs.Theorem.{Call, call_load, call_propose, call_find, call_convert, call_begin, call_feed, call_end, call_report, call_clear, next, run}
 use Rattle.session.specs.declared.Session.{Session}
-use Rattle.session.specs.declared.Step.{Step}
+use Rattle.session.specs.Step.{Step}
 use Rattle.session.proofs.Calls.{Recording, convert_records, end_records}
 use Rattle.runs.proofs.Kept.{Kept, kept_new, kept_next, itself, free}
 use Rattle.runs.specs.OverC.{next_value, run_values, ValuesFollow}
@@ -27,7 +26,7 @@ use Rattle.cvalue.specs.Values.{number_of, record_of, record_value, has_directio
 use Rattle.cvalue.specs.declared.RecordValue.{RecordValue}
 use Rattle.cvalue.specs.declared.SessionValue.{SessionValue}
 use Rattle.cvalue.proofs.Mapped.{up_to_next}
-use Rattle.runs.proofs.There.{state_low, held_there, table_there, table_made_lem, records_there, directions_there}
+use Rattle.runs.proofs.There.{state_low, held_there, table_there, table_is_made, records_there, directions_there}
 
 -- a ledger with none after its records
 
@@ -62,7 +61,7 @@ module _ (v : SessionValue) (x : Session) (long : length v.ledger ≡ most_recor
   value_made =
       rw (
         le-leb (number_of x.work.held.state) 2 (state_low x.work.held.state),
-        table_made_lem x.work.table x.work.waiting.state,
+        table_is_made x.work.table x.work.waiting.state,
         le-leb x.ledger.count most_records kept.few,
       )
       (ap (all has_direction) values_taken ∙ directions_there (records_of x.ledger))

@@ -25,7 +25,7 @@ use Rattle.work.specs.declared.Work.{Work}
 use Rattle.work.proofs.Valid.{valid_whole}
 use Rattle.conversion.specs.Conversion as Conversion
 use Rattle.conversion.specs.Conversion.{where_zero, convert_number, images_in}
-use Rattle.conversion.proofs.Numbers.{is_paired_lem, accepted, accepted_whole}
+use Rattle.conversion.proofs.Numbers.{state_paired, accepted, accepted_whole}
 use Rattle.running.specs.Running as Running
 use Rattle.session.specs.Session.{new_session, valid_session, counted, answer, step_with, record_with, recorded, convert, convert_output, report_number}
 use Rattle.runs.specs.Theorem.{run, EveryRun, RefusalsChangeNothing, GroupByGroup, opposite, with_ledger, BackAgain, ConversionAddsRecord, KeepsLedger, OthersKeepLedger}
@@ -60,7 +60,7 @@ refusals_change_nothing x =
 -- conversions
 
 pub given_pair : (h : Held) → Arrays h → is_paired (view h) ≡ true → Given h.p h.n (t1_of h) (t2_of h) (s_of h) (r_of h)
-given_pair h arrays e = paired_given h arrays Paired (is_paired_lem h e) refl
+given_pair h arrays e = paired_given h arrays Paired (state_paired h e) refl
 
 pub group_by_group : GroupByGroup
 group_by_group x arrays d table out z =
@@ -71,7 +71,7 @@ group_by_group x arrays d table out z =
 pub made_pair : {h : Held} → Reached h → is_paired (view h) ≡ true
     → Given h.p h.n (t1_of h) (t2_of h) (s_of h) (r_of h) × Isomorphisms h.p h.n (t1_of h) (t2_of h) (s_of h) (r_of h)
 made_pair {h} r e =
-    let (g, _, _, maps) = (checker_theorem h.p h.n (t1_of h) (t2_of h) (s_of h) (r_of h)).0 (reached_accepted r (sym (is_paired_lem h e))) in
+    let (g, _, _, maps) = (checker_theorem h.p h.n (t1_of h) (t2_of h) (s_of h) (r_of h)).0 (reached_accepted r (sym (state_paired h e))) in
     (g, maps)
 
 conversion_accepted : (d : Direction) (x : Session) → valid_session x ≡ true → (table out : List ℕ) → is_paired (view x.work.held) ≡ true

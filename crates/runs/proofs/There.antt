@@ -38,9 +38,9 @@ table_there (Open x) = go x.direction
     go Forward = refl
     go Back = refl
 
-pub table_made_lem : (t : Table) (s : State) → table_made (open_number t) (number_of s) ≡ true
-table_made_lem Closed s = refl
-table_made_lem (Open x) s = go x.direction
+pub table_is_made : (t : Table) (s : State) → table_made (open_number t) (number_of s) ≡ true
+table_is_made Closed s = refl
+table_is_made (Open x) s = go x.direction
   where
     go : (d : Direction) → table_made (open_in d) (number_of s) ≡ true
     go Forward = le-leb (number_of s) 2 (state_low s)

@@ -10,7 +10,7 @@ pub work_answers-requires : goal.work_answers-requires
 work_answers-requires c = search value_valid
 
 pub returns-clause-value : goal.returns-clause-value
-returns-clause-value c = search feed_gives
+returns-clause-value c = feed_gives _ _ c.counted_value-x.ensures _ _ _ (c.work_answers.ensures _ c.feed.ensures.value)
 
 pub returns-clause-out_after : goal.returns-clause-out_after
 returns-clause-out_after c = search feed_fills

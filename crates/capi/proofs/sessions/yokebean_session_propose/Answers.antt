@@ -7,4 +7,4 @@ pub work_answers-requires : goal.work_answers-requires
 work_answers-requires c = search value_valid
 
 pub returns : goal.returns
-returns c = search propose_gives
+returns c = propose_gives _ _ c.counted_value-x.ensures _ _ c.addressed.ensures _ _ (c.work_answers.ensures _ (c.placed.ensures _ c.propose-held.ensures))
