@@ -17,7 +17,7 @@ fn append(p: u16, a: u16, b: u16) -> u16
 
 // One more digit, the lowest: each number becomes p times it plus the word of the plane, to which s is added.
 fn collect(p: u16, count: usize, s: u16, xs: &[u16; 32768], codes: &mut [u16; 32768])
-    requires le_p { (2 ≤ p) × (p ≤ 256) × (s < p) × (count ≤ 32768) × (length codes.old ≡ 32768) }
+    requires sizes { (2 ≤ p) × (p ≤ 256) × (s < p) × (count ≤ 32768) × (length codes.old ≡ 32768) }
     requires words_below { WordsBelow p count xs.now × WordsBelow 256 count codes.old }
     ensures { Collected p count s xs.now codes.old codes.new }
 {
@@ -46,7 +46,7 @@ pub fn lows(
 )
     requires reduces { Reduces d × (1 ≤ n) × (n ≤ k) × (n + k ≤ 16) × (d.p ^ (n + k) ≤ 65536) × (count ≡ d.p ^ k) }
     requires holds { Holds d.p n t.now × (length xs.old ≡ 32768) × (length codes.old ≡ 32768) }
-    ensures xs_len { length xs.new ≡ 32768 }
+    ensures room_after { length xs.new ≡ 32768 }
     ensures lows { Lows d.p (take n t.now) k 0 codes.new }
 {
     clear(count, codes);

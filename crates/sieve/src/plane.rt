@@ -28,7 +28,7 @@ pub fn narrow(x: u64) -> u16
 
 // The block from word `to` on: the first words, each plus v.
 fn add_block(p: u16, size: usize, to: usize, v: u16, xs: &mut [u16; 32768])
-    requires p_bound { (p ≤ 256) × (v < p) × (size ≤ to) × (to + size ≤ 32768) }
+    requires sizes { (p ≤ 256) × (v < p) × (size ≤ to) × (to + size ≤ 32768) }
     requires words_below { WordsBelow p size xs.old }
     ensures { Block p size to v xs.old xs.new }
 {
@@ -40,7 +40,7 @@ fn add_block(p: u16, size: usize, to: usize, v: u16, xs: &mut [u16; 32768])
 // The p blocks for one more word, of which the first is there: block a has the first words plus a·c. In each turn all blocks that are there are added to at once, so that their number
 // doubles; in the last turn only as many as are left. Handed back is how many words there are then.
 fn extend(p: u16, size: usize, c: u16, xs: &mut [u16; 32768]) -> usize
-    requires le_p { (2 ≤ p) × (p ≤ 256) × (c < p) × (1 ≤ size) × (p * size ≤ 32768) }
+    requires sizes { (2 ≤ p) × (p ≤ 256) × (c < p) × (1 ≤ size) × (p * size ≤ 32768) }
     requires words_below { WordsBelow p size xs.old }
     ensures value { result ≡ p * size }
     ensures extended { Extended p p size c xs.old xs.new }

@@ -14,10 +14,10 @@ fn strike_degree(
     codes: &mut [u16; 32768],
     marks: &mut [u8; 131072],
 )
-    requires le_p { (2 ≤ p) × (1 ≤ n) × (n + n ≤ m) × (m ≤ 16) × (p ^ m ≤ 65536) }
-    requires xs_len { (length xs.old ≡ 32768) × (length codes.old ≡ 32768) }
+    requires sizes { (2 ≤ p) × (1 ≤ n) × (n + n ≤ m) × (m ≤ 16) × (p ^ m ≤ 65536) }
+    requires rooms { (length xs.old ≡ 32768) × (length codes.old ≡ 32768) }
     requires sieved { Sieved p n marks.old × Progress p m n 0 marks.old }
-    ensures xs_len_2 { (length xs.new ≡ 32768) × (length codes.new ≡ 32768) }
+    ensures rooms_after { (length xs.new ≡ 32768) × (length codes.new ≡ 32768) }
     ensures progress { Progress p m (n + 1) 0 marks.new × Outside p m marks.old marks.new }
 {
     let size = power(p as usize, n);
@@ -36,10 +36,10 @@ fn sieve_degree(
     codes: &mut [u16; 32768],
     marks: &mut [u8; 131072],
 )
-    requires le_p { (2 ≤ p) × (1 ≤ m) × (m ≤ 16) × (p ^ m ≤ 65536) × Room marks.old }
-    requires xs_len { (length xs.old ≡ 32768) × (length codes.old ≡ 32768) }
+    requires sizes { (2 ≤ p) × (1 ≤ m) × (m ≤ 16) × (p ^ m ≤ 65536) × Room marks.old }
+    requires rooms { (length xs.old ≡ 32768) × (length codes.old ≡ 32768) }
     requires sieved_below { SievedBelow p (m / 2 + 1) marks.old × Clear (p ^ m) marks.old }
-    ensures xs_len_2 { (length xs.new ≡ 32768) × (length codes.new ≡ 32768) }
+    ensures rooms_after { (length xs.new ≡ 32768) × (length codes.new ≡ 32768) }
     ensures sieved { Sieved p m marks.new × Outside p m marks.old marks.new }
 {
     for n in 1..m / 2 + 1 {
@@ -49,8 +49,8 @@ fn sieve_degree(
 
 // Marks, of the polynomials of degree n, those with a monic divisor of degree 1 to n − 1.
 pub fn sieve(p: u32, n: usize, marks: &mut [u8; 131072])
-    requires le_p { (2 ≤ p) × (1 ≤ n) × (n ≤ 16) × (p ^ n ≤ 65536) }
-    requires marks_value { marks.old ≡ replicate 131072 0 }
+    requires sizes { (2 ≤ p) × (1 ≤ n) × (n ≤ 16) × (p ^ n ≤ 65536) }
+    requires none_marked { marks.old ≡ replicate 131072 0 }
     ensures { Sieved p n marks.new × Room marks.new }
 {
     let mut xs = [0; 32768];

@@ -12,7 +12,7 @@ use modular::barrett::Barrett;
 
 // Marks word base + h·q + codes[h], for each h below count.
 fn strike(base: usize, q: usize, count: usize, codes: &[u16; 32768], marks: &mut [u8; 131072])
-    requires base_bound { (base ≤ 65536) × (count * q ≤ base) × (count ≤ 32768) × Room marks.old }
+    requires places { (base ≤ 65536) × (count * q ≤ base) × (count ≤ 32768) × Room marks.old }
     requires words_below { WordsBelow q count codes.now }
     ensures { Struck base q count codes.now marks.old marks.new }
 {
@@ -51,9 +51,9 @@ pub fn strike_multiples(
     codes: &mut [u16; 32768],
     marks: &mut [u8; 131072],
 )
-    requires le_p { (2 ≤ p) × (1 ≤ n) × (n + n ≤ m) × (m ≤ 16) × (p ^ m ≤ 65536) × (c < p ^ n) }
-    requires xs_len { (length xs.old ≡ 32768) × (length codes.old ≡ 32768) × Room marks.old }
-    ensures xs_len_2 { (length xs.new ≡ 32768) × (length codes.new ≡ 32768) }
+    requires sizes { (2 ≤ p) × (1 ≤ n) × (n + n ≤ m) × (m ≤ 16) × (p ^ m ≤ 65536) × (c < p ^ n) }
+    requires rooms { (length xs.old ≡ 32768) × (length codes.old ≡ 32768) × Room marks.old }
+    ensures rooms_after { (length xs.new ≡ 32768) × (length codes.new ≡ 32768) }
     ensures struck_by { StruckBy p (digits p n c) m marks.old marks.new }
 {
     let t = lower_words(p, n, c);

@@ -3,8 +3,8 @@ use Rattle.std.proofs.Common.{rules}
 use Rattle.catalogue.proofs.Answers.{prime_low, prime_positive, degree_low, degree_high, power_few, size_few, count_given}
 use Rattle.catalogue.proofs.call.count_models.Goals as goal
 
-pub sieve-requires-clause-le_p : goal.sieve-requires-clause-le_p
-sieve-requires-clause-le_p c = (prime_low _ _ c.in_ok-check_size.ensures, degree_low _ _ c.in_ok-check_size.ensures, degree_high _ _ c.in_ok-check_size.ensures, power_few _ _ c.in_ok-check_size.ensures)
+pub sieve-requires-clause-sizes : goal.sieve-requires-clause-sizes
+sieve-requires-clause-sizes c = (prime_low _ _ c.in_ok-check_size.ensures, degree_low _ _ c.in_ok-check_size.ensures, degree_high _ _ c.in_ok-check_size.ensures, power_few _ _ c.in_ok-check_size.ensures)
 
 pub power-requires : goal.power-requires
 power-requires c = (prime_positive _ _ c.in_ok-check_size.ensures, power_few _ _ c.in_ok-check_size.ensures)

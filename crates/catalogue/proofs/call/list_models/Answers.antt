@@ -12,8 +12,8 @@ returns-in_err-check_size-clause-value c =
 pub returns-in_err-check_size-clause-out_after : goal.returns-in_err-check_size-clause-out_after
 returns-in_err-check_size-clause-out_after c = output_refused _ _ _ c.in_err-check_size.ensures _
 
-pub sieve-requires-clause-le_p : goal.sieve-requires-clause-le_p
-sieve-requires-clause-le_p c = (prime_low _ _ c.in_ok-check_size.ensures, degree_low _ _ c.in_ok-check_size.ensures, degree_high _ _ c.in_ok-check_size.ensures, power_few _ _ c.in_ok-check_size.ensures)
+pub sieve-requires-clause-sizes : goal.sieve-requires-clause-sizes
+sieve-requires-clause-sizes c = (prime_low _ _ c.in_ok-check_size.ensures, degree_low _ _ c.in_ok-check_size.ensures, degree_high _ _ c.in_ok-check_size.ensures, power_few _ _ c.in_ok-check_size.ensures)
 
 pub power-size-requires : goal.power-size-requires
 power-size-requires c = (prime_positive _ _ c.in_ok-check_size.ensures, power_few _ _ c.in_ok-check_size.ensures)

@@ -14,8 +14,8 @@ plane-s-requires-clause-reduces c = (search rules, search prime_few, search rule
 pub narrow-requires : goal.narrow-requires
 narrow-requires c = search prime_short
 
-pub collect-requires-clause-le_p : goal.collect-requires-clause-le_p
-collect-requires-clause-le_p c = (search rules, search same_few, search start_below, search count_few, search rules)
+pub collect-requires-clause-sizes : goal.collect-requires-clause-sizes
+collect-requires-clause-sizes c = (search rules, search same_few, search start_below, search count_few, search rules)
 
 pub collect-requires-clause-words_below : goal.collect-requires-clause-words_below
 collect-requires-clause-words_below c = (search digit_plane, search lows_below)

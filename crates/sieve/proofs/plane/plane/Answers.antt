@@ -6,8 +6,8 @@ use Rattle.sieve.proofs.plane.plane.Goals as goal
 pub loop-init : goal.loop-init
 loop-init c = (search rules, search power_none, search shifted_first, search rules, search plane_first)
 
-pub extend-size-requires-clause-le_p : goal.extend-size-requires-clause-le_p
-extend-size-requires-clause-le_p c = (search rules, search rules, search rules, search plane_some, search plane_room)
+pub extend-size-requires-clause-sizes : goal.extend-size-requires-clause-sizes
+extend-size-requires-clause-sizes c = (search rules, search rules, search rules, search plane_some, search plane_room)
 
 pub extend-size-requires-clause-words_below : goal.extend-size-requires-clause-words_below
 extend-size-requires-clause-words_below c = search plane_below

@@ -3,10 +3,10 @@ use Rattle.sieve.proofs.sieve.Degrees.{degrees_none, degree_fits, degrees_turn, 
 use Rattle.sieve.proofs.sieve.sieve.Goals as goal
 
 pub loop-m-init : goal.loop-m-init
-loop-m-init c = degrees_none _ _ _ c.requires.marks_value
+loop-m-init c = degrees_none _ _ _ c.requires.none_marked
 
-pub sieve_degree-requires-clause-le_p : goal.sieve_degree-requires-clause-le_p
-sieve_degree-requires-clause-le_p c = (search rules, search rules, search rules, search degree_fits, search rules)
+pub sieve_degree-requires-clause-sizes : goal.sieve_degree-requires-clause-sizes
+sieve_degree-requires-clause-sizes c = (search rules, search rules, search rules, search degree_fits, search rules)
 
 pub loop-m-preserved : goal.loop-m-preserved
 loop-m-preserved c = search degrees_turn

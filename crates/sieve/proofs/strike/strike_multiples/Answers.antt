@@ -15,8 +15,8 @@ lows-requires-clause-holds c = (search divisor_holds, search rules, search rules
 pub power-requires-2 : goal.power-requires-2
 power-requires-2 c = (search rules, search size_fits)
 
-pub strike-requires-clause-base_bound : goal.strike-requires-clause-base_bound
-strike-requires-clause-base_bound c = (search base_bound, search blocks_inside, search count_bound, search rules)
+pub strike-requires-clause-places : goal.strike-requires-clause-places
+strike-requires-clause-places c = (search base_bound, search blocks_inside, search count_bound, search rules)
 
 pub strike-requires-clause-words_below : goal.strike-requires-clause-words_below
 strike-requires-clause-words_below c = search codes_below
