@@ -16,6 +16,7 @@ pub fn count_models(p: u32, n: u32) -> Result<u32, Refusal>
     ensures count_value { IfOk result (λ c. c ≡ model_count p n) }
 {
     check_size(p, n)?;
+    // The size that the largest p^n needs, since nothing is allocated.
     let mut marks = [0; 131072];
     sieve(p, n as usize, &mut marks);
     Ok(count_unmarked(power(p as usize, n as usize), &marks))

@@ -53,6 +53,7 @@ pub fn sieve(p: u32, n: usize, marks: &mut [u8; 131072])
     requires none_marked { marks.old ≡ replicate 131072 0 }
     ensures { Sieved p n marks.new × Room marks.new }
 {
+    // Arrays of the size that the largest p^n needs, since nothing is allocated.
     let mut xs = [0; 32768];
     let mut codes = [0; 32768];
     for m in 1..n / 2 + 1 {
