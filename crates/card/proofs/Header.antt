@@ -27,20 +27,6 @@ bounds false = (omega arith, omega arith, omega arith, omega arith, omega arith)
 pub layout_bounds : (wide : Bool) (l : Layout) → l ≡ layout wide → (l.before ≤ 16) × (l.digits ≤ 20) × (l.after ≤ 4) × (24 ≤ header_bits l) × (header_bits l ≤ 48)
 layout_bounds wide l e = rw e (bounds wide)
 
-module _ (wide : Bool) where
-  pub wide-layout : wide ≡ true → record { before = 16; digits = 20; after = 4 } ≡ layout wide
-  wide-layout e = rw e
-
-  pub narrow_layout : wide ≡ false → record { before = 0; digits = 16; after = 0 } ≡ layout wide
-  narrow_layout e = rw e
-
-  pub wide_bits : wide ≡ true → 48 ≡ header_bits (layout wide)
-  wide_bits e = rw e
-
-  pub narrow_bits : wide ≡ false → 24 ≡ header_bits (layout wide)
-  narrow_bits e = rw e
-
--- the layout that the writer uses has room for p
 pub prime_fits : (p : ℕ) → p ≤ largest_prime → p < 2 ^ (layout (is_over p)).digits
 prime_fits p h = by_layout (is_over p) refl
   where
@@ -101,9 +87,6 @@ module _ (ys : List ℕ) where
       pub kind_read : r ≡ field_at (unpacked ys) (l.before + l.digits + 4) 4 → r ≡ card_kind ys
       unfolding card_kind
       kind_read g = g ∙ ap (λ (x : Layout). field_at (unpacked ys) (x.before + x.digits + 4) 4) layout_is
-
-  pub header_found : (short : Bool) → short ≡ bad_header ys → short ≡ false → bad_header ys ≡ false
-  header_found short e h = sym e ∙ h
 
   pub short_bytes_there : (short : Bool) → short ≡ bad_header ys → short ≡ false → 2 ≤ length ys
   short_bytes_there short e h = omega (arith, header_bytes (sym e ∙ h))

@@ -2,7 +2,7 @@
 -- of p − 1. Up to 1,048,575 it is at most 20, and every number below p has w bits.
 use mathlib.Core.Path.{◌≡◌}
 use mathlib.Core.Bool.{Bool}
-use Prim.Native.Nat.{ℕ, zero, suc, ◌+◌, ◌-◌, ◌*◌, ◌/◌, ◌^◌, ◌≤◌, ◌<◌}
+use Prim.Native.Nat.{ℕ, zero, suc, ◌+◌, ◌-◌, ◌*◌, ◌^◌, ◌≤◌, ◌<◌}
 use mathlib.Core.Logic.{◌⊎◌, inl, inr}
 use native.Mathlib.Nat.{le_antisymm, mul-le-mul, pow-suc}
 use native.Mathlib.Omega.{arith}
@@ -15,7 +15,7 @@ use borrow.Author.Tests.{ltb-true, lt-ltb}
 use Rattle.algebra.specs.Lists.{range}
 use Rattle.algebra.proofs.Search.{range_bounds, range_member, first_found, first_smallest, Found}
 use Rattle.modular.specs.Prime.{largest_prime}
-use Rattle.card.specs.Card.{layout, header_bits, is_over, width}
+use Rattle.card.specs.Card.{width}
 
 abbrev enough : ℕ → ℕ → Bool
 enough p w = ltb (p - 1) (2 ^ w)
@@ -47,10 +47,6 @@ width_holds p h = omega (arith, width_enough p h)
 -- 64 words of 20 bits have 1,280 bits
 pub bits_most : (w count : ℕ) → w ≤ 20 → count ≤ 64 → count * w ≤ 1280
 bits_most w count lw lc = mul-le-mul lc lw
-
-pub bytes_are : (p count start w bits : ℕ) → start ≡ header_bits (layout (is_over p)) → w ≡ width p → bits ≡ start + count * w
-    → (bits + 7) / 8 ≡ (header_bits (layout (is_over p)) + count * width p + 7) / 8
-bytes_are p count start w bits es ew eb = rw (eb, es, ew)
 
 -- 2^m is at most twice p − 1, and one more: so m is the least
 width_leading : (p m : ℕ) → p ≤ largest_prime → p - 1 < 2 ^ m → 2 ^ m ≤ 2 * (p - 1) + 1 → m ≡ width p

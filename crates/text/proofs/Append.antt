@@ -6,7 +6,7 @@ use Prim.Native.Nat.{ℕ, ◌+◌, ◌≤◌, ◌<◌}
 use native.Mathlib.Numerals.{add-one}
 use native.Mathlib.Omega.{arith}
 use lib.ListN.{length, get_or, take, set, length-append}
-use lib.Seq.{take-suc, take-suc-set, take-length, length-take-le}
+use lib.Seq.{take-suc, take-suc-set}
 use Rattle.text.specs.Text.{Appended, Begins}
 
 pub append_nothing : (at : ℕ) (before : List ℕ) → Appended at [] before before at
@@ -30,15 +30,6 @@ module _ {A : Type 0} (z : A) (f : List A → List ℕ) (joins : (xs ys : List A
       → Appended m (f (get_or xs i z ∷ [])) between after r → Appended at (f (take (i + 1) xs)) before after r
   append_next at i m r xs before between after h l k =
       rw (add-one i, take-suc xs i z l, joins) (append_both at m r (f (take i xs)) (f (get_or xs i z ∷ [])) before between after h k)
-
-  pub append_all : (at i m : ℕ) (xs : List A) (before after : List ℕ) → Appended at (f (take i xs)) before after m → i ≤ length xs → length xs ≤ i
-      → Appended at (f xs) before after m
-  append_all at i m xs before after h l k = let same : i ≡ length xs = omega arith in rw (same, take-length) at h
-
--- before turn i there is room for element i
-pub append_room : (at i m : ℕ) (xs before after : List ℕ) → Appended at (take i xs) before after m → i < length xs → length after ≡ length before
-    → at + length xs ≤ length before → m < length after
-append_room at i m xs before after h l same room = omega (arith, h.end_is, length-take-le i xs (omega arith))
 
 -- what is written from place 0 on
 pub begins : (end : ℕ) (xs before after : List ℕ) → Appended 0 xs before after end → length xs ≤ length after → Begins xs after end

@@ -13,7 +13,7 @@ use Rattle.array.proofs.Words.{take_words}
 use Rattle.array.proofs.Padded.{words_at}
 use Rattle.text.specs.Columns.{signed_decimal, right_justified}
 use Rattle.text.specs.Text.{Appended}
-use Rattle.text.proofs.Append.{append_nothing, append_next, append_all}
+use Rattle.text.proofs.Append.{append_nothing, append_next}
 use Rattle.sheet.specs.Sheet.{centred, columns}
 use Rattle.sheet.proofs.SignedWord.{centred_small}
 use Rattle.sheet.proofs.Columns.{columns-append, centred_fits, columns-length, seven}
@@ -53,7 +53,3 @@ module _ (p at i m : ℕ) (u before between : List ℕ) (small : p ≤ 2 ^ 20) (
 pub no_coefficients : (p at : ℕ) (u before : List ℕ) → Appended at (columns 7 p (take 0 u)) before before at
 unfolding columns
 no_coefficients p at u before = append_nothing at before
-
-pub all_coefficients : (p at i m : ℕ) (u before after : List ℕ) → Appended at (columns 7 p (take i u)) before after m → i ≤ length u → length u ≤ i
-    → Appended at (columns 7 p u) before after m
-all_coefficients p at i m u before after = append_all 0 (columns 7 p) (columns-append 7 p) at i m u before after
