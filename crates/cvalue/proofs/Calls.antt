@@ -51,7 +51,8 @@ module _ (v : SessionValue) (c : CountsAs) (e : c ≡ counts_value v) where
     pub begin_gives : (d : Direction) → r ≡ step_of v (step_with (session_of v) (Running.begin d c.work c.count)) → r ≡ step_of v (begin d (session_of v))
     begin_gives = Calls.begin_answers (step_of v) (session_of v) r c.work (value_work v c e) c.count (value_count v c e)
 
-    pub feed_gives : (table out : List ℕ) → r ≡ step_of v (step_with (session_of v) (Running.feed c.work table out)) → r ≡ step_of v (feed (session_of v) table out)
+    pub feed_gives : (table out : List ℕ) → r ≡ step_of v (step_with (session_of v) (Running.feed c.work table out))
+        → r ≡ step_of v (feed (session_of v) table out)
     feed_gives = Calls.feed_answers (step_of v) (session_of v) r c.work (value_work v c e)
 
     pub convert_gives : (d : Direction) (table out : List ℕ) → r ≡ step_of v (record_with (session_of v) (Conversion.convert d c.work c.count table out))

@@ -1,4 +1,5 @@
-// The answers of calls as values: the next value where the call succeeds, else the value that was taken. C has a number beside a value, and no Result.
+// The answers of calls as values: the next value where the call succeeds, else the value that was
+// taken. C has a number beside a value, and no Result.
 ghost use Rattle.std.specs.Prelude.{◌≡◌};
 ghost use Rattle.refusal.specs.Number.{number_of};
 ghost use Rattle.work.specs.Step.{WorkStep, RecordStep, Answers, Records};

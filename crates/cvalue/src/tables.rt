@@ -1,5 +1,6 @@
 // The open table to numbers, and back: 0 is no table, 1 a forward one, 2 one back. Only C has these
-// numbers: a `From` would have to stand in work, and each function has a definition of its own in specs.
+// numbers: a `From` would have to stand in work, and each function has a definition of its own in
+// specs.
 ghost use Rattle.std.specs.Prelude.{◌≡◌};
 ghost use Rattle.cvalue.specs.Values.{table_of, open_in, open_number, fed_number, table_made};
 

@@ -1,4 +1,5 @@
--- Answers of calls: a refused call has the number of its refusal and gives back the value it took, and an accepted one gives the next value.
+-- Answers of calls: a refused call has the number of its refusal and gives back the value it took,
+-- and an accepted one gives the next value.
 --   refused_by, accepted   what the code answers, by the number
 --   answer_number, answer_keeps    the number, and the value of a refused call
 use Rattle.std.specs.Prelude.{Result, Ok}

@@ -22,7 +22,8 @@ module _ (x : Held) (state : State) (e : state ≡ view_state (view x)) where
     unfolding load load_from
     load_number h = rw (empty-view x state e h) (answer_number _ x _)
 
-    pub load_next : state ≡ Empty → refuse_sent p n (t1 ∷ t2 ∷ []) (t1 ∷ t2 ∷ []) 0 ≡ 0 → (y : Held) → y ≡ loaded_held p n t1 t2 → Answers (Ok y) (load x p n t1 t2)
+    pub load_next : state ≡ Empty → refuse_sent p n (t1 ∷ t2 ∷ []) (t1 ∷ t2 ∷ []) 0 ≡ 0 → (y : Held) → y ≡ loaded_held p n t1 t2
+        → Answers (Ok y) (load x p n t1 t2)
     unfolding load load_from
     load_next h z y f = rw (empty-view x state e h) (accepted _ x _ y z f)
 

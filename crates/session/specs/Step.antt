@@ -1,5 +1,6 @@
 -- What a session's calls give: a number, and a session.
---   Step        a call's number, 0 where it succeeds, and the next session; refused, the session that was taken
+--   Step        a call's number, 0 where it succeeds, and the next session; refused, the session
+--               that was taken
 --   step_of r   what the Result r of a call says of these
 use Rattle.std.specs.Prelude.{ℕ, Result, Ok, Err}
 use Rattle.refusal.specs.Number.{number}

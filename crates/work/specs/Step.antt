@@ -1,7 +1,8 @@
 -- What the calls below a session's give: a number, and the next value.
 --   WorkStep       a call's number, 0 where it succeeds, and the next value
 --   RecordStep     the same of a call that adds a record, and that record
---   Answers r y    r is the answer y: the next value of y where its number is 0, else the refusal with its number
+--   Answers r y    r is the answer y: the next value of y where its number is 0, else the refusal
+--                  with its number
 --   Records r y    the same of a call that adds a record
 use Rattle.std.specs.Prelude.{◌≡◌, ℕ, Result, Ok, Err}
 use Rattle.ledger.specs.declared.Record.{Record}
