@@ -1,7 +1,7 @@
 // Reduction modulo p without a division, after Barrett: the quotient comes from a product with a reciprocal of p, worked out once for each p. The
 // words that are reduced are sums of products of words below p.
 ghost use Rattle.std.specs.Prelude.{◌≡◌, ◌+◌, ◌*◌, ◌%◌, ◌^◌, ◌≤◌, ◌<◌};
-ghost use Rattle.modular.specs.Barrett.{Reduces};
+ghost use Rattle.modular.specs.Reciprocal.{IsReciprocal};
 
 // A divisor p with its reciprocal 2^(32 + shift) / p. The shift leaves five bits of p, so that the reciprocal and what is left of a word after the
 // shift have at most 32 bits.
@@ -10,6 +10,7 @@ pub struct Barrett {
     pub p: u64,
     pub shift: u32,
     pub reciprocal: u64,
+    pub ghost reduces: { IsReciprocal p shift reciprocal },
 }
 
 // The product of two numbers of 32 bits. The casts let the compiler multiply several such pairs at once.
@@ -33,7 +34,7 @@ impl Barrett {
     // The divisor p.
     pub fn new(p: u64) -> Barrett
         requires { (2 ≤ p) × (p ≤ 2 ^ 20) }
-        ensures { (result.p ≡ p) × Reduces result }
+        ensures { result.p ≡ p }
     {
         let shift = shift_of(p);
         Barrett {
@@ -45,7 +46,7 @@ impl Barrett {
 
     // A number below 2·p that is x modulo p.
     pub fn near(self, x: u64) -> u64
-        requires { Reduces self × (x ≤ 64 * (self.p * self.p)) }
+        requires { x ≤ 64 * (self.p * self.p) }
         ensures { (result < 2 * self.p) × (result % self.p ≡ x % self.p) }
     {
         let q = times(x >> self.shift, self.reciprocal) >> 32;
@@ -54,7 +55,7 @@ impl Barrett {
 
     // A number up to 2·p that is −x modulo p.
     pub fn opposite(self, x: u64) -> u64
-        requires { Reduces self × (x ≤ 64 * (self.p * self.p)) }
+        requires { x ≤ 64 * (self.p * self.p) }
         ensures { (result ≤ 2 * self.p) × ((result + x) % self.p ≡ 0) }
     {
         2 * self.p - self.near(x)
@@ -62,7 +63,7 @@ impl Barrett {
 
     // x modulo p.
     pub fn reduce(self, x: u64) -> u64
-        requires { Reduces self × (x ≤ 64 * (self.p * self.p)) }
+        requires { x ≤ 64 * (self.p * self.p) }
         ensures { (result ≡ x % self.p) × (result < self.p) }
     {
         let y = self.near(x);

@@ -6,7 +6,7 @@ use native.Mathlib.Nat as Nat
 use native.Mathlib.Omega.{arith}
 use lib.Pow.{pow_pos}
 use Rattle.modular.specs.declared.barrett.Barrett.{Barrett}
-use Rattle.modular.specs.Barrett.{Reduces}
+use Rattle.modular.specs.Reciprocal.{IsReciprocal}
 use Rattle.modular.proofs.Remainder.{remainder_unique}
 use Rattle.modular.proofs.barrett.Shift.{shift_short}
 
@@ -21,7 +21,10 @@ quotient_bounds p r t x h l q pos split low high below above from to =
     let e : h * 16 * p ≤ 15 * 2 ^ 32 * p = Nat.mul-le-mul_right p high in
     (omega arith, omega arith)
 
-module _ (d : Barrett) (m : Reduces d) where
+module _ (d : Barrett) where
+  m : IsReciprocal d.p d.shift d.reciprocal
+  m = d.reduces
+
   pub shift_fits : d.shift < 64
   shift_fits = omega (arith, shift_short d.p d.shift m.small m.low)
 
