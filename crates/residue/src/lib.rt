@@ -5,5 +5,6 @@
 #![tactic(auto)]
 
 pub mod difference;
+pub mod modulus;
 mod product;
 pub mod ring;
