@@ -8,5 +8,5 @@ use Rattle.residue.proofs.product.accumulate.Given as goal
 
 abbrev pub invariant-loop-k : goal.invariant-loop-k
 invariant-loop-k l =
-    Halves l.d.p l.n (l.n - 2 * l.k) (2 * l.k) (product l.d.p (take l.n l.t) (drop (2 * l.k) (take l.n l.u)) (take l.n l.v)) l.e l.o
-    × (l.h ≡ get_or (joined l.n (2 * l.k) l.e l.o) (l.n - 1) 0)
+    Halves l.t.d.p l.t.n (l.t.n - 2 * l.k) (2 * l.k) (product l.t.d.p (take l.t.n l.t.words) (drop (2 * l.k) (take l.t.n l.u)) (take l.t.n l.v)) l.e l.o
+    × (l.h ≡ get_or (joined l.t.n (2 * l.k) l.e l.o) (l.t.n - 1) 0)

@@ -7,4 +7,4 @@ use Rattle.residue.proofs.product.ShiftLoop.{shifted}
 use Rattle.residue.proofs.product.reduce_shifted.Given as goal
 
 abbrev pub invariant-loop-j : goal.invariant-loop-j
-invariant-loop-j l = l.w ≡ painted (replicate 16 0) (remainder l.d.p (shifted l.n l.q l.t l.e l.o)) l.j
+invariant-loop-j l = l.w ≡ painted (replicate 16 0) (remainder l.t.d.p (shifted l.t.n l.q l.t.words l.e l.o)) l.j

@@ -7,6 +7,9 @@ use Rattle.residue.proofs.product.shifted_word.Goals as goal
 pub returns-then-j-eq0 : goal.returns-then-j-eq0
 returns-then-j-eq0 c = (search shift_lowest, search shift_lowest_small)
 
+pub times-requires : goal.times-requires
+times-requires c = (search rules, search word_short)
+
 pub times-requires-2 : goal.times-requires-2
 times-requires-2 c = (search rules, search word_short)
 

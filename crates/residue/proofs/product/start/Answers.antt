@@ -24,4 +24,7 @@ pub returns-clause-halves : goal.returns-clause-halves
 returns-clause-halves c = search odd_start
 
 pub returns-clause-value : goal.returns-clause-value
-returns-clause-value c = search odd_top fits 6000
+returns-clause-value c =
+    let t = c.args.t.now in
+    odd_top _ _ _ _ _ _ _ _ _ t.d.reduces.big t.degree.0 t.degree.1 t.below c.requires.holds.0 c.requires.holds.1 c.requires.zeros.0 c.requires.zeros.1
+    c.if-n-eq0.false c.add_rows.ensures.even_row c.add_rows.ensures.odd_row _ c.times.ensures
