@@ -4,15 +4,14 @@ ghost use Rattle.array.specs.Array.{Holds};
 ghost use Rattle.matrix.specs.Matrix.{Frobenius};
 
 use crate::powers::powers;
+use residue::modulus::Modulus;
 use residue::ring::frobenius_of_x;
 
 // The powers of X^p modulo T.
-pub fn frobenius(p: u64, n: usize, t: &[u64; 16], m: &mut [u64; 256])
-    requires sizes { (2 ≤ p) × (p ≤ 2 ^ 20) × (1 ≤ n) × (n ≤ 16) }
-    requires holds { Holds p n t.now }
-    requires size { length m.old ≡ 256 }
-    ensures { Frobenius p n (take n t.now) m.new }
+pub fn frobenius(t: &Modulus, m: &mut [u64; 256])
+    requires { length m.old ≡ 256 }
+    ensures { Frobenius t.now.d.p t.now.n (take t.now.n t.now.words) m.new }
 {
-    let x = frobenius_of_x(p, n, t);
-    powers(p, n, t, &x, m);
+    let x = frobenius_of_x(t);
+    powers(t, &x, m);
 }

@@ -2,24 +2,23 @@
 // product with S a third of one.
 ghost use Rattle.std.specs.Prelude.{◌≡◌, ◌≤◌, take, replicate};
 ghost use Rattle.array.specs.Array.{Holds};
-ghost use Rattle.modular.specs.Barrett.{Reduces};
 ghost use Rattle.matrix.specs.Matrix.{Multiples};
 
 use crate::powers::place;
 use modular::barrett::Barrett;
+use residue::modulus::Modulus;
 use residue::ring::times_x;
 
 // The multiples S, X·S, …, X^(n−1)·S modulo T, into a matrix that is 0.
-pub fn multiples(d: Barrett, n: usize, t: &[u64; 16], s: &[u64; 16], m: &mut [u64; 256])
-    requires reduces { Reduces d × (1 ≤ n) × (n ≤ 16) }
-    requires holds { Holds d.p n t.now × Holds d.p n s.now }
+pub fn multiples(t: &Modulus, s: &[u64; 16], m: &mut [u64; 256])
+    requires holds { Holds t.now.d.p t.now.n s.now }
     requires zeros { m.old ≡ replicate 256 0 }
-    ensures { Multiples d.p n (take n t.now) (take n s.now) m.new }
+    ensures { Multiples t.now.d.p t.now.n (take t.now.n t.now.words) (take t.now.n s.now) m.new }
 {
     let mut w = *s;
-    place(n, 0, &w, m);
-    for k in 1..n {
-        times_x(d, n, t, &mut w);
-        place(n, k, &w, m);
+    place(t.n, 0, &w, m);
+    for k in 1..t.n {
+        times_x(t, &mut w);
+        place(t.n, k, &w, m);
     }
 }

@@ -1,7 +1,6 @@
 // The product of a matrix with a residue, modulo p.
 ghost use Rattle.std.specs.Prelude.{◌≡◌, ◌*◌, ◌%◌, ◌^◌, ◌≤◌, ◌<◌, take};
 ghost use Rattle.array.specs.Array.{padded, Holds, Square, row_product};
-ghost use Rattle.modular.specs.Barrett.{Reduces};
 ghost use Rattle.matrix.specs.Matrix.{matrix_product, Factors};
 
 use modular::barrett::Barrett;
@@ -16,7 +15,7 @@ fn term(a: u64, b: u64) -> u64
 
 // The product of row i with u, modulo p: the sum of sixteen products is reduced once. With that number in place of n the loop is unrolled.
 pub fn dot(d: Barrett, n: usize, m: &[u64; 256], u: &[u64; 16], i: usize) -> u64
-    requires reduces { Reduces d × (n ≤ 16) × (i < n) }
+    requires sizes { (n ≤ 16) × (i < n) }
     requires factors { Factors d.p n i m.now u.now }
     ensures { result ≡ row_product m.now i 0 (take n u.now) % d.p }
 {
@@ -29,7 +28,7 @@ pub fn dot(d: Barrett, n: usize, m: &[u64; 256], u: &[u64; 16], i: usize) -> u64
 
 // The products of the first n rows with u, modulo p, in k columns.
 pub fn products(d: Barrett, n: usize, k: usize, m: &[u64; 256], u: &[u64; 16]) -> [u64; 16]
-    requires reduces { Reduces d × (n ≤ k) × (k ≤ 16) }
+    requires sizes { (n ≤ k) × (k ≤ 16) }
     requires square { Square d.p k m.now × Holds d.p k u.now }
     ensures { result ≡ padded (matrix_product d.p n m.now (take k u.now)) }
 {
@@ -41,10 +40,10 @@ pub fn products(d: Barrett, n: usize, k: usize, m: &[u64; 256], u: &[u64; 16]) -
 }
 
 // The product of a matrix with u, modulo p.
-pub fn apply(p: u64, n: usize, m: &[u64; 256], u: &[u64; 16]) -> [u64; 16]
-    requires sizes { (2 ≤ p) × (p ≤ 2 ^ 20) × (n ≤ 16) }
-    requires square { Square p n m.now × Holds p n u.now }
-    ensures { result ≡ padded (matrix_product p n m.now (take n u.now)) }
+pub fn apply(d: Barrett, n: usize, m: &[u64; 256], u: &[u64; 16]) -> [u64; 16]
+    requires size { n ≤ 16 }
+    requires square { Square d.p n m.now × Holds d.p n u.now }
+    ensures { result ≡ padded (matrix_product d.p n m.now (take n u.now)) }
 {
-    products(Barrett::new(p), n, n, m, u)
+    products(d, n, n, m, u)
 }

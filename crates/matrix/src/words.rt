@@ -2,7 +2,6 @@
 ghost use Rattle.std.specs.Prelude.{◌≡◌, ◌%◌, ◌≤◌, ◌<◌, length, take};
 ghost use Rattle.array.specs.Words.{Words, word_bound};
 ghost use Rattle.array.specs.Array.{Square, row_product};
-ghost use Rattle.modular.specs.Barrett.{Reduces};
 ghost use Rattle.matrix.specs.Matrix.{matrix_product, Rows, Begins};
 
 use crate::product::dot;
@@ -12,7 +11,7 @@ use modular::barrett::{Barrett, times};
 
 // The product of row i with a list of n words, modulo p.
 fn dot_list(d: Barrett, n: usize, m: &[u64; 256], u: &[Word], i: usize) -> u64
-    requires reduces { Reduces d × (n ≤ 16) × (i < n) }
+    requires sizes { (n ≤ 16) × (i < n) }
     requires square { Square d.p n m.now × Words d.p n u.now }
     ensures { result ≡ row_product m.now i 0 u.now % d.p }
 {
@@ -25,7 +24,7 @@ fn dot_list(d: Barrett, n: usize, m: &[u64; 256], u: &[Word], i: usize) -> u64
 
 // The product with few words, which are read from the list for each row.
 fn multiply_few(d: Barrett, n: usize, m: &[u64; 256], u: &[Word], out: &mut [Word])
-    requires reduces { Reduces d × (n ≤ 16) × (length out.old ≡ n) }
+    requires sizes { (n ≤ 16) × (length out.old ≡ n) }
     requires square { Square d.p n m.now × Words d.p n u.now }
     ensures { out.new ≡ matrix_product d.p n m.now u.now }
 {
@@ -47,7 +46,7 @@ fn load_words(n: usize, u: &[Word]) -> [u64; 16]
 
 // The product with many words, which are loaded once for all rows. What follows them in the array meets the zeros of the matrix.
 fn multiply_many(d: Barrett, n: usize, m: &[u64; 256], u: &[Word], out: &mut [Word])
-    requires reduces { Reduces d × (n ≤ 16) × (length out.old ≡ n) × (n ≤ length u.now) }
+    requires sizes { (n ≤ 16) × (length out.old ≡ n) × (n ≤ length u.now) }
     requires rows { Rows d.p n m.now × Words d.p (length u.now) u.now }
     ensures { out.new ≡ matrix_product d.p n m.now (take n u.now) }
 {
@@ -59,7 +58,7 @@ fn multiply_many(d: Barrett, n: usize, m: &[u64; 256], u: &[Word], out: &mut [Wo
 
 // The product of a matrix with the first n words of u.
 pub fn multiply(d: Barrett, n: usize, m: &[u64; 256], u: &[Word], out: &mut [Word])
-    requires reduces { Reduces d × (n ≤ 16) × (length out.old ≡ n) × (n ≤ length u.now) }
+    requires sizes { (n ≤ 16) × (length out.old ≡ n) × (n ≤ length u.now) }
     requires rows { Rows d.p n m.now × Words d.p (length u.now) u.now }
     ensures { out.new ≡ matrix_product d.p n m.now (take n u.now) }
 {

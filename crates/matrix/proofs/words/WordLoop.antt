@@ -14,17 +14,16 @@ use Rattle.array.specs.Array.{padded, Holds}
 use Rattle.array.proofs.Padded.{holds_is, holds_word, words_at, array_length}
 use Rattle.array.proofs.Painted.{painted}
 use Rattle.array.proofs.Words.{words_length, words_up, take_words}
-use Rattle.modular.specs.Barrett.{Reduces}
 use Rattle.modular.specs.declared.barrett.Barrett.{Barrett}
 use Rattle.matrix.specs.Matrix.{matrix_product, Rows, Begins, Factors}
 use Rattle.array.proofs.Ranges.{painted-range}
 use Rattle.matrix.proofs.product.ProductLoop.{product_word}
 use Rattle.matrix.proofs.product.RowLoop.{zero_word}
 
-pub word_fits : (d : Barrett) (r x : ℕ) → Reduces d → r ≡ x % d.p → Fits w32 r
-word_fits d r x h e =
-    let l : x % d.p < d.p = Nat.mod-lt x (omega (arith, h.big)) in
-    omega (arith, h.small)
+pub word_fits : (d : Barrett) (r x : ℕ) → r ≡ x % d.p → Fits w32 r
+word_fits d r x e =
+    let l : x % d.p < d.p = Nat.mod-lt x (omega (arith, d.reduces.big)) in
+    omega (arith, d.reduces.small)
 
 module _ (p n i : ℕ) (m u out₀ out : List ℕ) (e : out ≡ painted out₀ (product_word p m u) i) where
   pub list_done : length out₀ ≡ n → i ≤ length out₀ → length out₀ ≤ i → out ≡ matrix_product p n m u

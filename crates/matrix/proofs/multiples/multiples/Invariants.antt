@@ -7,4 +7,4 @@ use Rattle.matrix.specs.Matrix.{multiple, Multiples}
 use Rattle.matrix.proofs.multiples.multiples.Given as goal
 
 abbrev pub invariant-loop-k : goal.invariant-loop-k
-invariant-loop-k l = (l.w ≡ padded (multiple l.d.p (take l.n l.t) (take l.n l.s) (l.k - 1))) × Multiples l.d.p l.k (take l.n l.t) (take l.n l.s) l.m
+invariant-loop-k l = (l.w ≡ padded (multiple l.t.d.p (take l.t.n l.t.words) (take l.t.n l.s) (l.k - 1))) × Multiples l.t.d.p l.k (take l.t.n l.t.words) (take l.t.n l.s) l.m

@@ -6,8 +6,8 @@ use Rattle.matrix.proofs.powers.few_powers.Goals as goal
 pub loop-j-init : goal.loop-j-init
 loop-j-init c = (search last_first, search powers_two, search kept_none)
 
-pub multiply-u-requires-clause-holds : goal.multiply-u-requires-clause-holds
-multiply-u-requires-clause-holds c = (search rules, search rules, search power_holds)
+pub multiply-u-requires : goal.multiply-u-requires
+multiply-u-requires c = (search rules, search power_holds)
 
 pub loop-j-preserved : goal.loop-j-preserved
 loop-j-preserved c = (search last_turn, search powers_turn, search kept_turn)

@@ -8,4 +8,4 @@ use Rattle.matrix.specs.Matrix.{Powers, Kept}
 use Rattle.matrix.proofs.powers.many_powers.Given as goal
 
 abbrev pub invariant-loop-j : goal.invariant-loop-j
-invariant-loop-j l = (l.u ≡ padded (power l.d.p (take l.n l.t) (take l.n l.s) (l.j - 1))) × Powers l.d.p l.j (take l.n l.t) (take l.n l.s) l.m × Kept l.n l.initial.m l.m
+invariant-loop-j l = (l.u ≡ padded (power l.t.d.p (take l.t.n l.t.words) (take l.t.n l.s) (l.j - 1))) × Powers l.t.d.p l.j (take l.t.n l.t.words) (take l.t.n l.s) l.m × Kept l.t.n l.initial.m l.m
