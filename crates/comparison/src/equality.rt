@@ -5,6 +5,7 @@ ghost use Rattle.quotient.specs.Residue.{constant, sum, residue_of_x};
 ghost use Rattle.array.specs.Array.{Holds};
 
 use modular::word::add;
+use residue::modulus::Modulus;
 use residue::ring::residue_of_x;
 
 // Whether u = v.
@@ -29,11 +30,10 @@ pub fn opposite(p: u64, n: usize, u: &[u64; 16], v: &[u64; 16]) -> bool
 }
 
 // Whether u = X modulo T.
-pub fn is_x(p: u64, n: usize, t: &[u64; 16], u: &[u64; 16]) -> bool
-    requires sizes { (2 ≤ p) × (p ≤ 2 ^ 20) × (1 ≤ n) × (n ≤ 16) }
-    requires holds { Holds p n t.now × (length u.now ≡ 16) }
-    ensures { result ≡ equal (take n u.now) (residue_of_x p (take n t.now)) }
+pub fn is_x(t: &Modulus, u: &[u64; 16]) -> bool
+    requires { length u.now ≡ 16 }
+    ensures { result ≡ equal (take t.now.n u.now) (residue_of_x t.now.d.p (take t.now.n t.now.words)) }
 {
-    let x = residue_of_x(p, n, t);
-    same(n, u, &x)
+    let x = residue_of_x(t);
+    same(t.n, u, &x)
 }
