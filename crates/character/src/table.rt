@@ -1,7 +1,6 @@
 // A table of the powers a^k modulo p of the numbers below 128, for one exponent k. A word is 0 until its power is known. The power of a number with a
 // factor 2, 3, 5 or 7 is the product of two powers, and those of the primes are worked out four at a time.
 ghost use Rattle.std.specs.Prelude.{◌≡◌, ◌%◌, ◌^◌, ◌≤◌, ◌<◌, IfSome};
-ghost use Rattle.modular.specs.Barrett.{Reduces};
 ghost use Rattle.character.specs.Table.{Table, Ascending};
 ghost use Rattle.character.specs.Four.{Low};
 
@@ -47,7 +46,7 @@ fn small_factor(i: usize) -> usize
 
 // The power of i as a product of two words of the table: 0 where one of these is 0.
 fn product(m: Barrett, k: u64, i: usize, c: &[u64; 128]) -> u64
-    requires reduces { Reduces m × (i < 128) }
+    requires sizes { i < 128 }
     requires table { Table m.p k c.now }
     ensures { ((result ≡ 0 → ⊥) → result ≡ i ^ k % m.p) × (result < m.p) }
 {
@@ -57,7 +56,7 @@ fn product(m: Barrett, k: u64, i: usize, c: &[u64; 128]) -> u64
 
 // The power of a number: from the table, or from two words of it, or by products.
 fn value(m: Barrett, k: u64, a: u64, c: &[u64; 128]) -> u64
-    requires reduces { Reduces m × (a < m.p) }
+    requires sizes { a < m.p }
     requires table { Table m.p k c.now }
     ensures { (result ≡ a ^ k % m.p) × (result < m.p) }
 {
@@ -88,7 +87,7 @@ fn write(p: u64, k: u64, a: u64, r: u64, c: &mut [u64; 128])
 
 // Writes the powers of four numbers into the table.
 fn enter(m: Barrett, k: u64, x: [u64; 4], c: &mut [u64; 128])
-    requires reduces { Reduces m × Low m.p x }
+    requires sizes { Low m.p x }
     requires table { Table m.p k c.old }
     ensures { Table m.p k c.new }
 {
@@ -100,7 +99,6 @@ fn enter(m: Barrett, k: u64, x: [u64; 4], c: &mut [u64; 128])
 
 // Writes the powers of the four primes from a on into the table, if four come together there and are below p.
 fn extend(m: Barrett, k: u64, a: u64, c: &mut [u64; 128])
-    requires reduces { Reduces m }
     requires table { Table m.p k c.old }
     ensures { Table m.p k c.new }
 {
@@ -112,7 +110,7 @@ fn extend(m: Barrett, k: u64, a: u64, c: &mut [u64; 128])
 
 // The power of the number a; the table holds it afterwards, if it has a place for it.
 pub fn next(m: Barrett, k: u64, a: u64, c: &mut [u64; 128]) -> u64
-    requires reduces { Reduces m × (a < m.p) }
+    requires sizes { a < m.p }
     requires table { Table m.p k c.old }
     ensures value { (result ≡ a ^ k % m.p) × (result < m.p) }
     ensures table_2 { Table m.p k c.new }

@@ -2,7 +2,6 @@
 ghost use Rattle.std.specs.Prelude.{◌≡◌, ◌+◌, ◌≤◌, ◌<◌, MatchOption};
 ghost use Rattle.algebra.specs.Prime.{Prime};
 ghost use Rattle.array.specs.Array.{entry};
-ghost use Rattle.modular.specs.Barrett.{Reduces};
 ghost use Rattle.linear.specs.Elimination.{Reduced, Advanced, Prepared, Pivot};
 
 use crate::row::{add_multiple, scale};
@@ -24,7 +23,6 @@ pub fn find_pivot(n: usize, c: usize, m: &[u64; 256]) -> Option<usize>
 
 // Adds row r, which has the pivot, to row c, unless it is row c. Before that the word of row c is 0 in column c, so it is not 0 afterwards.
 fn bring(d: Barrett, n: usize, c: usize, r: usize, m: &mut [u64; 256], b: &mut [u64; 16])
-    requires reduces { Reduces d }
     requires indices { (n ≤ 16) × (c < n) × (r < n) }
     requires reduced { Reduced d.p n c m.old b.old }
     requires pivot { Pivot n c m.old r }
@@ -37,7 +35,6 @@ fn bring(d: Barrett, n: usize, c: usize, r: usize, m: &mut [u64; 256], b: &mut [
 
 // Subtracts multiples of row c, which has 1 in column c, from all other rows, so that column c becomes that of the identity.
 fn clear(d: Barrett, n: usize, c: usize, m: &mut [u64; 256], b: &mut [u64; 16])
-    requires reduces { Reduces d }
     requires indices { (n ≤ 16) × (c < n) × (entry m.old c c ≡ 1) }
     requires reduced { Reduced d.p n c m.old b.old }
     ensures { Advanced d.p n (c + 1) m.old b.old m.new b.new }
@@ -53,7 +50,6 @@ fn clear(d: Barrett, n: usize, c: usize, m: &mut [u64; 256], b: &mut [u64; 16])
 // Makes column c that of the identity, given the pivot's row r. The pivot's inverse is worked out once, before the columns.
 pub fn eliminate(d: Barrett, n: usize, c: usize, r: usize, m: &mut [u64; 256], b: &mut [u64; 16])
     requires prime { Prime d.p }
-    requires reduces { Reduces d }
     requires indices { (n ≤ 16) × (c < n) × (r < n) }
     requires reduced { Reduced d.p n c m.old b.old }
     requires pivot { Pivot n c m.old r }

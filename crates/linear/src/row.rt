@@ -1,7 +1,6 @@
 // Row operations on a system whose first c columns are those of the identity. They leave those columns alone, for the row that is multiplied is 0 there.
 ghost use Rattle.std.specs.Prelude.{◌≡◌, ◌+◌, ◌*◌, ◌%◌, ◌≤◌, ◌<◌};
 ghost use Rattle.array.specs.Array.{entry};
-ghost use Rattle.modular.specs.Barrett.{Reduces};
 ghost use Rattle.linear.specs.Elimination.{Reduced, RowStep};
 
 use modular::barrett::{Barrett, times};
@@ -9,7 +8,6 @@ use modular::word::remainder;
 
 // e + f·g modulo p.
 fn plus_product(d: Barrett, e: u64, f: u64, g: u64) -> u64
-    requires reduces { Reduces d }
     requires factors { (e < d.p) × (f ≤ d.p) × (g < d.p) }
     ensures { (result ≡ (e + f * g) % d.p) × (result < d.p) }
 {
@@ -27,7 +25,6 @@ pub fn add_multiple(
     m: &mut [u64; 256],
     b: &mut [u64; 16],
 )
-    requires reduces { Reduces d }
     requires rows { (n ≤ 16) × (c < n) × (x < n) × (y < n) × (c ≤ y) × (f ≤ d.p) × (x ≡ y → ⊥) }
     requires reduced { Reduced d.p n c m.old b.old }
     ensures { RowStep d.p n c x ((entry m.old x c + f * entry m.old y c) % d.p) m.old b.old m.new b.new }
@@ -42,7 +39,6 @@ pub fn add_multiple(
 // Row c times a number whose product with the pivot, its word in column c, is 1 modulo p. Nothing else is known of that number, so it is reduced before the
 // columns.
 pub fn scale(d: Barrett, n: usize, c: usize, inverse: u64, m: &mut [u64; 256], b: &mut [u64; 16])
-    requires reduces { Reduces d }
     requires inverse_of_pivot { (n ≤ 16) × (c < n) × ((inverse * entry m.old c c) % d.p ≡ 1) }
     requires reduced { Reduced d.p n c m.old b.old }
     ensures { RowStep d.p n c c 1 m.old b.old m.new b.new }

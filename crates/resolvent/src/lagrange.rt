@@ -6,7 +6,6 @@
 // elimination where the test fails.
 ghost use Rattle.std.specs.Prelude.{◌+◌, ◌^◌, ◌≤◌, ◌<◌};
 ghost use Rattle.array.specs.Array.{Holds, Square};
-ghost use Rattle.modular.specs.Barrett.{Reduces};
 ghost use Rattle.resolvent.specs.Sums.{Sums};
 
 use matrix::product::products;
@@ -27,7 +26,7 @@ fn add_multiple(p: u64, k: usize, c: u64, x: &[u64; 16], sums: &mut [u64; 16])
 
 // a·b modulo p, without a division.
 fn multiply(d: Barrett, a: u64, b: u64) -> u64
-    requires { Reduces d × (a < d.p) × (b < d.p) }
+    requires { (a < d.p) × (b < d.p) }
     ensures { result < d.p }
 {
     d.reduce(times(a, b))
@@ -47,7 +46,7 @@ fn ones(n: usize) -> [u64; 16]
 
 // The sum of the terms y^j·F^j(x) for j < n, where m is the matrix of F: each F^j(x) is its product with the one before.
 fn sum_of_terms(d: Barrett, n: usize, y: u64, m: &[u64; 256]) -> [u64; 16]
-    requires reduces { Reduces d × (1 ≤ n) × (n ≤ 16) × (y < d.p) }
+    requires sizes { (1 ≤ n) × (n ≤ 16) × (y < d.p) }
     requires square { Square d.p n m.now }
     ensures { Sums d.p 16 result }
 {
@@ -64,7 +63,7 @@ fn sum_of_terms(d: Barrett, n: usize, y: u64, m: &[u64; 256]) -> [u64; 16]
 
 // The first n sums modulo p, and zeros after them.
 fn reduce(d: Barrett, n: usize, sums: &[u64; 16]) -> [u64; 16]
-    requires reduces { Reduces d × (n ≤ 16) }
+    requires sizes { n ≤ 16 }
     requires sums { Sums d.p 16 sums.now }
     ensures { Holds d.p n result }
 {

@@ -5,12 +5,12 @@
 ghost use Rattle.std.specs.Prelude.{◌+◌, ◌*◌, ◌^◌, ◌≤◌, ◌<◌};
 ghost use Rattle.algebra.specs.Prime.{Prime};
 ghost use Rattle.array.specs.Array.{Holds, Square};
-ghost use Rattle.modular.specs.Barrett.{Reduces};
 ghost use Rattle.traces.specs.Sums.{Sums};
 
 use crate::newton::traces;
 use modular::barrett::{Barrett, times};
 use modular::word::inverse;
+use residue::modulus::Modulus;
 
 // Adds c times row i of m to the sums. Row after row, not column after column: the compiler then multiplies several words at once.
 fn add_row(p: u64, n: usize, i: usize, c: u64, m: &[u64; 256], w: &mut [u64; 16])
@@ -38,7 +38,7 @@ fn row_sums(p: u64, n: usize, s: &[u64; 16], m: &[u64; 256]) -> [u64; 16]
 
 // f·x modulo p, where x is a sum that is not reduced.
 fn multiple(d: Barrett, f: u64, x: u64) -> u64
-    requires { Reduces d × (f < d.p) × (x ≤ 64 * (d.p * d.p)) }
+    requires { (f < d.p) × (x ≤ 64 * (d.p * d.p)) }
     ensures { result < d.p }
 {
     d.reduce(times(f, d.reduce(x)))
@@ -46,7 +46,7 @@ fn multiple(d: Barrett, f: u64, x: u64) -> u64
 
 // The coefficients of P: the first of the sums times g, which is 1/n, and the others from the last one down times f, which is 1/(n·a).
 fn coefficients(d: Barrett, n: usize, f: u64, g: u64, w: &[u64; 16]) -> [u64; 16]
-    requires reduces { Reduces d × (1 ≤ n) × (n ≤ 16) × (f < d.p) × (g < d.p) }
+    requires sizes { (1 ≤ n) × (n ≤ 16) × (f < d.p) × (g < d.p) }
     requires sums { Sums d.p n n w.now }
     ensures { Holds d.p n result }
 {
@@ -59,28 +59,28 @@ fn coefficients(d: Barrett, n: usize, f: u64, g: u64, w: &[u64; 16]) -> [u64; 16
 }
 
 // The polynomial P with P(α) = X, where column j of m holds α^j and α^n = a; zeros where n·a is 0 modulo p.
-fn guess(d: Barrett, n: usize, a: u64, t: &[u64; 16], m: &[u64; 256]) -> [u64; 16]
-    requires prime { Prime d.p }
-    requires reduces { Reduces d × (1 ≤ n) × (n ≤ 16) × (a < d.p) }
-    requires holds { Holds d.p n t.now × Square d.p n m.now }
-    ensures { Holds d.p n result }
+fn guess(a: u64, t: &Modulus, m: &[u64; 256]) -> [u64; 16]
+    requires prime { Prime t.now.d.p }
+    requires sizes { a < t.now.d.p }
+    requires holds { Square t.now.d.p t.now.n m.now }
+    ensures { Holds t.now.d.p t.now.n result }
 {
-    let c = d.reduce(times(n as u64, a));
+    let c = t.d.reduce(times(t.n as u64, a));
     if c == 0 {
         return [0; 16];
     }
-    let f = inverse(d.p, c);
-    let g = d.reduce(times(a, f));
-    let w = row_sums(d.p, n, &traces(d, n, t), m);
-    coefficients(d, n, f, g, &w)
+    let f = inverse(t.d.p, c);
+    let g = t.d.reduce(times(a, f));
+    let w = row_sums(t.d.p, t.n, &traces(t), m);
+    coefficients(t.d, t.n, f, g, &w)
 }
 
 // The same by p. The caller tests the result.
-pub fn expression(p: u64, n: usize, a: u64, t: &[u64; 16], m: &[u64; 256]) -> [u64; 16]
-    requires prime { Prime p }
-    requires p_bound { (p ≤ 2 ^ 20) × (1 ≤ n) × (n ≤ 16) × (a < p) }
-    requires holds { Holds p n t.now × Square p n m.now }
-    ensures { Holds p n result }
+pub fn expression(a: u64, t: &Modulus, m: &[u64; 256]) -> [u64; 16]
+    requires prime { Prime t.now.d.p }
+    requires p_bound { a < t.now.d.p }
+    requires holds { Square t.now.d.p t.now.n m.now }
+    ensures { Holds t.now.d.p t.now.n result }
 {
-    guess(Barrett::new(p), n, a, t, m)
+    guess(a, t, m)
 }

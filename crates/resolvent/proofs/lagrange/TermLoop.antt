@@ -14,7 +14,6 @@ use Rattle.array.proofs.Words.{words_up}
 use Rattle.matrix.specs.Matrix.{matrix_product}
 use Rattle.matrix.proofs.MultiplicationMatrix.{whole_holds}
 use Rattle.modular.specs.declared.barrett.Barrett.{Barrett}
-use Rattle.modular.specs.Barrett.{Reduces}
 use Rattle.resolvent.specs.Sums.{Sums}
 
 -- past its 16 words an array reads as 0
@@ -32,11 +31,11 @@ unfolding range
 range_words f a zero h = none
 range_words f a (suc n) h = more (h a (omega arith)) (range_words f (suc a) n (λ i l. h i (omega arith)))
 
-module _ (d : Barrett) (n : ℕ) (x : List ℕ) (by : Reduces d) (short : n ≤ 16) where
+module _ (d : Barrett) (n : ℕ) (x : List ℕ) (short : n ≤ 16) where
   -- the list of ones
   module _ (h : Holds 2 n x) where
     pub first_holds : Holds d.p n x
-    first_holds = record { words = words_up by.big h.words; zeros = h.zeros }
+    first_holds = record { words = words_up d.reduces.big h.words; zeros = h.zeros }
 
     pub first_sums : Sums d.p 1 x
     first_sums = record { size = array_length n x short h.zeros; small = word }
@@ -44,14 +43,14 @@ module _ (d : Barrett) (n : ℕ) (x : List ℕ) (by : Reduces d) (short : n ≤ 
         word : (i : ℕ) → get_or x i 0 ≤ 1 * (d.p * d.p)
         word i =
             let one : get_or x i 0 < 2 = whole_word (whole_holds 2 n x (omega arith) short h) i in
-            let some : 1 ≤ d.p = omega (arith, by.big) in
+            let some : 1 ≤ d.p = omega (arith, d.reduces.big) in
             omega (arith, Nat.mul-le-mul some some)
 
   -- F^j(x) from the one before
   module _ (m u : List ℕ) (e : x ≡ padded (matrix_product d.p n m u)) where
     pub next_holds : Holds d.p n x
     unfolding matrix_product
-    next_holds = holds_is e (range_words (λ i. row_product m i 0 u % d.p) 0 n (λ i l. Nat.mod-lt (row_product m i 0 u) (omega (arith, by.big))))
+    next_holds = holds_is e (range_words (λ i. row_product m i 0 u % d.p) 0 n (λ i l. Nat.mod-lt (row_product m i 0 u) (omega (arith, d.reduces.big))))
 
     pub next_whole : Holds d.p 16 x
-    next_whole = whole_holds d.p n x by.big short next_holds
+    next_whole = whole_holds d.p n x d.reduces.big short next_holds

@@ -24,4 +24,4 @@ pub overflow_add-sum-2 : goal.overflow_add-sum-2
 overflow_add-sum-2 c = search (partial_fits, last_below)
 
 pub opposite-requires : goal.opposite-requires
-opposite-requires c = (search rules, search (partial_few, last_below))
+opposite-requires c = search (partial_few, last_below)

@@ -4,4 +4,4 @@ use Rattle.traces.proofs.newton.TraceLoop.{Partial}
 use Rattle.traces.proofs.newton.trace.Given as goal
 
 abbrev pub invariant-loop-j : goal.invariant-loop-j
-invariant-loop-j l = (l.j ≤ l.k + 1) × Partial l.d.p l.j l.sum
+invariant-loop-j l = (l.j ≤ l.k + 1) × Partial l.t.d.p l.j l.sum
