@@ -7,16 +7,16 @@ ghost use Rattle.irreducible.specs.Irreducible.{irreducible_number};
 
 use crate::rabin::is_irreducible;
 use array::Word;
-use array::copy::load;
 use refusal::Refusal;
 use refusal::sent::sent;
+use residue::modulus::Modulus;
 
 // Whether T has no monic divisor of degree 1 to n − 1, for a model to which no other refusal applies.
 pub fn is_field(p: u32, n: u32, t: &[Word]) -> bool
     requires { Model p n t.now }
     ensures { result ≡ not (has_divisor p t.now) }
 {
-    is_irreducible(p as u64, n as usize, &load(t))
+    is_irreducible(&Modulus::load(p, n, t))
 }
 
 // Succeeds where T has no monic divisor of degree 1 to n − 1, and then every residue but 0 has an inverse; else the first refusal that applies.

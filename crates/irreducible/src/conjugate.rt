@@ -3,37 +3,35 @@ ghost use Rattle.std.specs.Prelude.{◌≡◌, ◌≤◌, take};
 ghost use Rattle.algebra.specs.Prime.{Prime};
 ghost use Rattle.array.specs.Array.{padded, Holds};
 ghost use Rattle.matrix.specs.Matrix.{Frobenius};
-ghost use Rattle.modular.specs.Barrett.{Reduces};
-ghost use Rattle.irreducible.specs.Rabin.{conjugate_of_x, difference};
+ghost use Rattle.irreducible.specs.Rabin.{conjugate_of_x, difference as difference_of};
 
 use matrix::product::products;
 use modular::barrett::Barrett;
 use residue::difference::subtract;
+use residue::modulus::Modulus;
 use residue::ring::residue_of_x;
 
 // X^(p^k) modulo T, from X by k products with the matrix.
-pub fn conjugate(d: Barrett, n: usize, t: &[u64; 16], m: &[u64; 256], k: usize) -> [u64; 16]
-    requires prime { Prime d.p }
-    requires reduces { Reduces d × (1 ≤ n) × (n ≤ 16) }
-    requires holds { Holds d.p n t.now × Frobenius d.p n (take n t.now) m.now }
-    ensures { result ≡ padded (conjugate_of_x d.p (take n t.now) k) }
+pub fn conjugate(t: &Modulus, m: &[u64; 256], k: usize) -> [u64; 16]
+    requires prime { Prime t.now.d.p }
+    requires holds { Frobenius t.now.d.p t.now.n (take t.now.n t.now.words) m.now }
+    ensures { result ≡ padded (conjugate_of_x t.now.d.p (take t.now.n t.now.words) k) }
 {
-    let mut u = residue_of_x(d.p, n, t);
+    let mut u = residue_of_x(t);
     // The turns are counted by name, since the loop's invariant says that u is X^(p^i).
     for _i in 0..k {
-        u = products(d, n, n, m, &u);
+        u = products(t.d, t.n, t.n, m, &u);
     }
     u
 }
 
 // X^(p^k) − X modulo T.
-pub fn difference(d: Barrett, n: usize, t: &[u64; 16], m: &[u64; 256], k: usize) -> [u64; 16]
-    requires prime { Prime d.p }
-    requires reduces { Reduces d × (1 ≤ n) × (n ≤ 16) }
-    requires holds { Holds d.p n t.now × Frobenius d.p n (take n t.now) m.now }
-    ensures { result ≡ padded (difference d.p (take n t.now) k) }
+pub fn difference(t: &Modulus, m: &[u64; 256], k: usize) -> [u64; 16]
+    requires prime { Prime t.now.d.p }
+    requires holds { Frobenius t.now.d.p t.now.n (take t.now.n t.now.words) m.now }
+    ensures { result ≡ padded (difference_of t.now.d.p (take t.now.n t.now.words) k) }
 {
-    let u = conjugate(d, n, t, m, k);
-    let x = residue_of_x(d.p, n, t);
-    subtract(d.p, n, &u, &x)
+    let u = conjugate(t, m, k);
+    let x = residue_of_x(t);
+    subtract(t.d.p, t.n, &u, &x)
 }

@@ -10,20 +10,15 @@ use array::copy::load;
 use irreducible::call::is_field;
 use refusal::Refusal;
 use refusal::sent::sent_with;
+use residue::modulus::Modulus;
 
 // Whether the four congruences hold, for lists to which 1 to 4 do not apply.
 pub fn congruences_hold(p: u32, n: u32, t1: &[Word], t2: &[Word], s: &[Word], r: &[Word]) -> bool
     requires { Given p n t1.now t2.now s.now r.now }
     ensures { result ≡ congruences_hold p t1.now t2.now s.now r.now }
 {
-    congruent(
-        p as u64,
-        n as usize,
-        &load(t1),
-        &load(t2),
-        &load(s),
-        &load(r),
-    )
+    let t = Modulus::load(p, n, t2);
+    congruent(&load(t1), &t, &load(s), &load(r))
 }
 
 // Whether the moduli and the pair are accepted, for lists to which 1 to 4 do not apply. Where the congruences hold, T2 has a proper divisor only if T1 has

@@ -9,34 +9,28 @@ ghost use Rattle.pair.specs.Pair.{congruences_hold};
 use comparison::equality::{is_x, opposite};
 use matrix::powers::{column, powers};
 use matrix::product::apply;
-use residue::ring::product;
+use residue::modulus::Modulus;
+use residue::ring::multiply;
 
 // Whether T1(S) = 0 modulo T, by the matrix of the powers of S: S^n is opposite to what the lower words of T1 give.
-fn is_root(p: u64, n: usize, t: &[u64; 16], s: &[u64; 16], m: &[u64; 256], t1: &[u64; 16]) -> bool
-    requires sizes { (2 ≤ p) × (p ≤ 2 ^ 20) × (1 ≤ n) × (n ≤ 16) }
-    requires holds { Holds p n t.now × Holds p n s.now × Holds p n t1.now × Powers p n (take n t.now) (take n s.now) m.now }
-    ensures { result ≡ equal (modulus_at p (take n t.now) (take n s.now) (take n t1.now)) (constant n 0) }
+fn is_root(t: &Modulus, s: &[u64; 16], m: &[u64; 256], t1: &[u64; 16]) -> bool
+    requires { Holds t.now.d.p t.now.n s.now × Holds t.now.d.p t.now.n t1.now × Powers t.now.d.p t.now.n (take t.now.n t.now.words) (take t.now.n s.now) m.now }
+    ensures { result ≡ equal (modulus_at t.now.d.p (take t.now.n t.now.words) (take t.now.n s.now) (take t.now.n t1.now)) (constant t.now.n 0) }
 {
+    let n = t.n;
     let last = column(n, m, n - 1);
-    let top = product(p, n, t, s, &last);
-    let rest = apply(p, n, m, t1);
-    opposite(p, n, &top, &rest)
+    let top = multiply(t, s, &last);
+    let rest = apply(t.d, n, m, t1);
+    opposite(t.d.p, n, &top, &rest)
 }
 
 // Whether the four congruences hold.
-pub fn congruent(
-    p: u64,
-    n: usize,
-    t1: &[u64; 16],
-    t2: &[u64; 16],
-    s: &[u64; 16],
-    r: &[u64; 16],
-) -> bool
-    requires sizes { (2 ≤ p) × (p ≤ 2 ^ 20) × (1 ≤ n) × (n ≤ 16) }
-    requires holds { Holds p n t1.now × Holds p n t2.now × Holds p n s.now × Holds p n r.now }
-    ensures { result ≡ congruences_hold p (take n t1.now) (take n t2.now) (take n s.now) (take n r.now) }
+pub fn congruent(t1: &[u64; 16], t2: &Modulus, s: &[u64; 16], r: &[u64; 16]) -> bool
+    requires { Holds t2.now.d.p t2.now.n t1.now × Holds t2.now.d.p t2.now.n s.now × Holds t2.now.d.p t2.now.n r.now }
+    ensures { result
+        ≡ congruences_hold t2.now.d.p (take t2.now.n t1.now) (take t2.now.n t2.now.words) (take t2.now.n s.now) (take t2.now.n r.now) }
 {
     let mut m = [0; 256];
-    powers(p, n, t2, s, &mut m);
-    is_root(p, n, t2, s, &m, t1) && is_x(p, n, t2, &apply(p, n, &m, r))
+    powers(t2, s, &mut m);
+    is_root(t2, s, &m, t1) && is_x(t2, &apply(t2.d, t2.n, &m, r))
 }

@@ -1,8 +1,11 @@
 // A modulus T, monic of degree n, as the arithmetic takes it: with p and the reciprocal of p.
-ghost use Rattle.std.specs.Prelude.{◌≡◌, ◌≤◌};
-ghost use Rattle.array.specs.Array.{Holds};
+ghost use Rattle.std.specs.Prelude.{◌≡◌, ◌^◌, ◌≤◌};
+ghost use Rattle.array.specs.Array.{padded, Holds};
 ghost use Rattle.array.specs.Props.{Holds-prop};
+ghost use Rattle.array.specs.Words.{Words};
 
+use array::Word;
+use array::copy::load;
 use modular::barrett::Barrett;
 
 // The words of T below its leading 1, and zeros after them.
@@ -23,5 +26,15 @@ impl Modulus {
         ensures { (result.d ≡ d) × (result.n ≡ n) × (result.words ≡ words) }
     {
         Modulus { d, n, words }
+    }
+
+    // The modulus with the n words of a list.
+    pub fn load(p: u32, n: u32, t: &[Word]) -> Modulus
+        requires prime { (2 ≤ p) × (p ≤ 2 ^ 20) }
+        requires degree { (1 ≤ n) × (n ≤ 16) }
+        requires words { Words p n t.now }
+        ensures { (result.d.p ≡ p) × (result.n ≡ n) × (result.words ≡ padded t.now) }
+    {
+        Modulus::new(Barrett::new(p as u64), n as usize, load(t))
     }
 }

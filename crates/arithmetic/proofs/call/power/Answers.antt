@@ -11,10 +11,8 @@ load-requires-2 c = search (first_short, second_short, c.in_ok-sent.ensures)
 pub power-requires-clause-sizes : goal.power-requires-clause-sizes
 power-requires-clause-sizes c = search (in_range, c.in_ok-sent.ensures)
 
-pub power-requires-clause-holds : goal.power-requires-clause-holds
-power-requires-clause-holds c =
-    let sent = c.in_ok-sent.ensures in
-    (search (first_holds, second_holds), search (first_holds, second_holds))
+pub power-requires : goal.power-requires
+power-requires c = let sent = c.in_ok-sent.ensures in (search (first_holds, second_holds), search (first_holds, second_holds))
 
 pub store-requires : goal.store-requires
 store-requires c = (search (output_short, c.in_ok-sent.ensures), search (power_stores, c.in_ok-sent.ensures))

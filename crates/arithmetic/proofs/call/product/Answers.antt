@@ -14,10 +14,8 @@ load-requires-3 c = search (first_short, second_short, third_short, c.in_ok-sent
 pub product-requires-clause-sizes : goal.product-requires-clause-sizes
 product-requires-clause-sizes c = search (in_range, c.in_ok-sent.ensures)
 
-pub product-requires-clause-holds : goal.product-requires-clause-holds
-product-requires-clause-holds c =
-    let sent = c.in_ok-sent.ensures in
-    (search (first_holds, second_holds, third_holds), search (first_holds, second_holds, third_holds), search (first_holds, second_holds, third_holds))
+pub product-requires : goal.product-requires
+product-requires c = let sent = c.in_ok-sent.ensures in (search (first_holds, second_holds, third_holds), search (first_holds, second_holds, third_holds), search (first_holds, second_holds, third_holds))
 
 pub store-requires : goal.store-requires
 store-requires c = (search (output_short, c.in_ok-sent.ensures), search (product_stores, c.in_ok-sent.ensures))

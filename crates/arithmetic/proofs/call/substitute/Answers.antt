@@ -14,10 +14,8 @@ load-requires-3 c = search (first_short, second_short, third_short, c.in_ok-sent
 pub substitute-requires-clause-sizes : goal.substitute-requires-clause-sizes
 substitute-requires-clause-sizes c = search (in_range, c.in_ok-sent.ensures)
 
-pub substitute-requires-clause-holds : goal.substitute-requires-clause-holds
-substitute-requires-clause-holds c =
-    let sent = c.in_ok-sent.ensures in
-    (search (first_holds, second_holds, third_holds), search (first_holds, second_holds, third_holds), search (first_holds, second_holds, third_holds))
+pub substitute-requires : goal.substitute-requires
+substitute-requires c = let sent = c.in_ok-sent.ensures in (search (first_holds, second_holds, third_holds), search (first_holds, second_holds, third_holds), search (first_holds, second_holds, third_holds))
 
 pub store-requires : goal.store-requires
 store-requires c = (search (output_short, c.in_ok-sent.ensures), search (substitute_stores, c.in_ok-sent.ensures))

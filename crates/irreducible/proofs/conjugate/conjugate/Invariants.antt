@@ -6,4 +6,4 @@ use Rattle.irreducible.specs.Rabin.{conjugate_of_x}
 use Rattle.irreducible.proofs.conjugate.conjugate.Given as goal
 
 abbrev pub invariant-loop-i : goal.invariant-loop-i
-invariant-loop-i l = l.u ≡ padded (conjugate_of_x l.d.p (take l.n l.t) l._i)
+invariant-loop-i l = l.u ≡ padded (conjugate_of_x l.t.d.p (take l.t.n l.t.words) l._i)

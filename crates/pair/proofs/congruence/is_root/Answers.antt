@@ -4,8 +4,8 @@ use Rattle.matrix.proofs.PowerMatrix.{square_of_powers}
 use Rattle.pair.proofs.congruence.TwoTests.{last_holds, top_holds, image_holds, root_decides}
 use Rattle.pair.proofs.congruence.is_root.Goals as goal
 
-pub product-top-requires-clause-holds : goal.product-top-requires-clause-holds
-product-top-requires-clause-holds c = (search rules, search rules, search last_holds)
+pub multiply-top-requires : goal.multiply-top-requires
+multiply-top-requires c = (search rules, search last_holds)
 
 pub apply-rest-requires-clause-square : goal.apply-rest-requires-clause-square
 apply-rest-requires-clause-square c = (search square_of_powers, search rules)
