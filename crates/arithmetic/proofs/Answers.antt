@@ -22,7 +22,7 @@ module _ (p n : ℕ) (t : List ℕ) (others : List (List ℕ)) (out : List ℕ) 
   given : Accepted p n (t ∷ others) out
   given = accepted p n (t ∷ others) out e
 
-  first_words : Words p n t
+  pub first_words : Words p n t
   first_words = given.words t (inl refl)
 
   pub first_short : length t ≤ 16
@@ -34,8 +34,11 @@ module _ (p n : ℕ) (t : List ℕ) (others : List (List ℕ)) (out : List ℕ) 
   pub output_short : length out ≤ 16
   output_short = omega (arith, given.size, given.high)
 
-  pub in_range : (2 ≤ p) × (p ≤ 2 ^ 20) × (1 ≤ n) × (n ≤ 16)
-  in_range = (given.big, omega (arith, given.small), given.low, given.high)
+  pub prime_range : (2 ≤ p) × (p ≤ 2 ^ 20)
+  prime_range = (given.big, omega (arith, given.small))
+
+  pub degree_range : (1 ≤ n) × (n ≤ 16)
+  degree_range = (given.low, given.high)
 
   -- a result s of n words below p, on its way from the array r into out
   module _ (s r : List ℕ) (f : r ≡ padded s) (w : Words p n s) where

@@ -1,6 +1,6 @@
 // The public calls on residues: lists of words are lent, nothing is required, and each refusal has its number. On a refusal the list lent
 // for the output is as found.
-// The lists that a call reads have one lifetime, since they are tested in one array.
+// Three lists that are read have one lifetime, since they stand in one array.
 // `product` and `substitute` differ in one name: a helper that took the operation as a closure
 // would state that closure's contract beside its own, and neither call would be shorter.
 ghost use Rattle.std.specs.Prelude.{◌≡◌};
@@ -11,6 +11,7 @@ use array::Word;
 use array::copy::{load, store};
 use refusal::Refusal;
 use refusal::sent::sent;
+use residue::modulus::Modulus;
 use residue::ring;
 
 // u·v modulo T, into out.
@@ -25,31 +26,31 @@ pub fn product<'a>(
     ensures value { number_of result ≡ product_number p n t.now u.now v.now out.old }
     ensures out_after { out.new ≡ product_output p n t.now u.now v.now out.old }
 {
-    sent(p, n, &[out, t, u, v], &[t, u, v])?;
-    store(
-        &ring::product(p as u64, n as usize, &load(t), &load(u), &load(v)),
-        out,
-    );
+    let read = [t, u, v];
+    let lists = [out, t, u, v];
+    sent(p, n, &lists, &read)?;
+    let modulus = Modulus::load(p, n, t);
+    store(&ring::multiply(&modulus, &load(u), &load(v)), out);
     Ok(())
 }
 
 // u^k modulo T, into out.
-pub fn power<'a>(
+pub fn power(
     p: u32,
     n: u32,
-    t: &'a [Word],
-    u: &'a [Word],
+    t: &[Word],
+    u: &[Word],
     k: u64,
     out: &mut [Word],
 ) -> Result<(), Refusal>
     ensures value { number_of result ≡ power_number p n t.now u.now out.old }
     ensures out_after { out.new ≡ power_output p n t.now u.now k out.old }
 {
-    sent(p, n, &[out, t, u], &[t, u])?;
-    store(
-        &ring::power(p as u64, n as usize, &load(t), &load(u), k),
-        out,
-    );
+    let read = [t, u];
+    let lists = [out, t, u];
+    sent(p, n, &lists, &read)?;
+    let modulus = Modulus::load(p, n, t);
+    store(&ring::power(&modulus, &load(u), k), out);
     Ok(())
 }
 
@@ -65,10 +66,10 @@ pub fn substitute<'a>(
     ensures value { number_of result ≡ substitute_number p n t.now s.now u.now out.old }
     ensures out_after { out.new ≡ substitute_output p n t.now s.now u.now out.old }
 {
-    sent(p, n, &[out, t, s, u], &[t, s, u])?;
-    store(
-        &ring::substitute(p as u64, n as usize, &load(t), &load(s), &load(u)),
-        out,
-    );
+    let read = [t, s, u];
+    let lists = [out, t, s, u];
+    sent(p, n, &lists, &read)?;
+    let modulus = Modulus::load(p, n, t);
+    store(&ring::substitute(&modulus, &load(s), &load(u)), out);
     Ok(())
 }

@@ -1,21 +1,20 @@
--- `power`: where no refusal applies, the arrays hold the lists, and the result fits the list lent.
-use Rattle.arithmetic.proofs.Answers.{first_short, second_short, output_short, in_range, first_holds, second_holds, power_stores, power_stored}
+-- `power`: where no refusal applies, the modulus and the arrays hold the lists, and the result fits the list lent.
+use Rattle.arithmetic.proofs.Answers.{prime_range, degree_range, first_words, second_short, output_short, second_holds, power_stores, power_stored}
 use Rattle.arithmetic.proofs.call.power.Goals as goal
 
+pub load-modulus-requires : goal.load-modulus-requires
+load-modulus-requires c =
+    let e = c.in_ok-sent.ensures in
+    record { prime = prime_range _ _ _ _ _ e; degree = degree_range _ _ _ _ _ e; words = first_words _ _ _ _ _ e }
+
 pub load-requires : goal.load-requires
-load-requires c = search (first_short, second_short, c.in_ok-sent.ensures)
-
-pub load-requires-2 : goal.load-requires-2
-load-requires-2 c = search (first_short, second_short, c.in_ok-sent.ensures)
-
-pub power-requires-clause-sizes : goal.power-requires-clause-sizes
-power-requires-clause-sizes c = search (in_range, c.in_ok-sent.ensures)
+load-requires c = second_short _ _ _ _ _ _ c.in_ok-sent.ensures
 
 pub power-requires : goal.power-requires
-power-requires c = let sent = c.in_ok-sent.ensures in (search (first_holds, second_holds), search (first_holds, second_holds))
+power-requires c = rw (c.load-modulus.ensures.0, c.load-modulus.ensures.1) (second_holds _ _ _ _ _ _ c.in_ok-sent.ensures _ c.load.ensures)
 
 pub store-requires : goal.store-requires
-store-requires c = (search (output_short, c.in_ok-sent.ensures), search (power_stores, c.in_ok-sent.ensures))
+store-requires c = (output_short _ _ _ _ _ c.in_ok-sent.ensures, power_stores _ _ _ _ _ c.in_ok-sent.ensures _ _ _ _ c.load-modulus.ensures.2 c.load.ensures (rw (c.load-modulus.ensures.0, c.load-modulus.ensures.1) at c.power.ensures))
 
 pub returns-clause-out_after : goal.returns-clause-out_after
-returns-clause-out_after c = search (power_stored, c.in_ok-sent.ensures)
+returns-clause-out_after c = power_stored _ _ _ _ _ c.in_ok-sent.ensures _ _ _ _ c.load-modulus.ensures.2 c.load.ensures (rw (c.load-modulus.ensures.0, c.load-modulus.ensures.1) at c.power.ensures) _ c.store.ensures
