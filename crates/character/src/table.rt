@@ -46,7 +46,7 @@ fn small_factor(i: usize) -> usize
 
 // The power of i as a product of two words of the table: 0 where one of these is 0.
 fn product(m: Barrett, k: u64, i: usize, c: &[u64; 128]) -> u64
-    requires sizes { i < 128 }
+    requires index { i < 128 }
     requires table { Table m.p k c.now }
     ensures { ((result ≡ 0 → ⊥) → result ≡ i ^ k % m.p) × (result < m.p) }
 {
@@ -56,7 +56,7 @@ fn product(m: Barrett, k: u64, i: usize, c: &[u64; 128]) -> u64
 
 // The power of a number: from the table, or from two words of it, or by products.
 fn value(m: Barrett, k: u64, a: u64, c: &[u64; 128]) -> u64
-    requires sizes { a < m.p }
+    requires below { a < m.p }
     requires table { Table m.p k c.now }
     ensures { (result ≡ a ^ k % m.p) × (result < m.p) }
 {
@@ -87,7 +87,7 @@ fn write(p: u64, k: u64, a: u64, r: u64, c: &mut [u64; 128])
 
 // Writes the powers of four numbers into the table.
 fn enter(m: Barrett, k: u64, x: [u64; 4], c: &mut [u64; 128])
-    requires sizes { Low m.p x }
+    requires low { Low m.p x }
     requires table { Table m.p k c.old }
     ensures { Table m.p k c.new }
 {
@@ -110,7 +110,7 @@ fn extend(m: Barrett, k: u64, a: u64, c: &mut [u64; 128])
 
 // The power of the number a; the table holds it afterwards, if it has a place for it.
 pub fn next(m: Barrett, k: u64, a: u64, c: &mut [u64; 128]) -> u64
-    requires sizes { a < m.p }
+    requires below { a < m.p }
     requires table { Table m.p k c.old }
     ensures value { (result ≡ a ^ k % m.p) × (result < m.p) }
     ensures table_2 { Table m.p k c.new }

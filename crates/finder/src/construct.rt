@@ -47,11 +47,11 @@ fn between(
     ensures { FoundPair p n (take n t1.now) (take n t2.now) 0 result.forward result.backward }
 {
     let mut w = [0; 256];
-    powers(p, n, t1, alpha1, m);
-    powers(p, n, t2, alpha2, &mut w);
+    powers(t1, alpha1, m);
+    powers(t2, alpha2, &mut w);
     Pair {
-        forward: image(p, n, a, t1, m, &w),
-        backward: image(p, n, a, t2, &w, m),
+        forward: image(a, t1, m, &w),
+        backward: image(a, t2, &w, m),
     }
 }
 
@@ -90,8 +90,8 @@ fn from_eigenvectors(p: u64, n: usize, t1: &[u64; 16], t2: &[u64; 16]) -> Result
 {
     let mut m = [0; 256];
     let z = zeta(p, n as u64);
-    let first = eigenvector(p, n, z, t1, &mut m).ok_or(Refusal::FirstModulus)?;
-    let second = eigenvector(p, n, z, t2, &mut m).ok_or(Refusal::SecondModulus)?;
+    let first = eigenvector(z, t1, &mut m).ok_or(Refusal::FirstModulus)?;
+    let second = eigenvector(z, t2, &mut m).ok_or(Refusal::SecondModulus)?;
     Ok(from_scalings(p, n, z, t1, t2, first, second, &mut m))
 }
 
@@ -103,8 +103,8 @@ fn from_rounds(p: u64, n: usize, k: u64, t1: &[u64; 16], t2: &[u64; 16]) -> Resu
     ensures number { number_of result ≡ refuse_find p n (take n t1.now) (take n t2.now) }
     ensures pair { IfOk result (λ pair. FoundPair p n (take n t1.now) (take n t2.now) 0 pair.forward pair.backward) }
 {
-    let alpha1 = generator(p, n, k, t1).ok_or(Refusal::FirstModulus)?;
-    let alpha2 = generator(p, n, k, t2).ok_or(Refusal::SecondModulus)?;
+    let alpha1 = generator(k, t1).ok_or(Refusal::FirstModulus)?;
+    let alpha2 = generator(k, t2).ok_or(Refusal::SecondModulus)?;
     let mut m = [0; 256];
     Ok(between(p, n, 0, t1, t2, &alpha1, &alpha2, &mut m))
 }

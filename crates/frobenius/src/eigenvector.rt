@@ -9,6 +9,7 @@ ghost use Rattle.frobenius.specs.Kernel.{Divided, NoConstant, EigenvectorFound};
 ghost use Rattle.roots.specs.Roots.{Admissible, OrderModulo};
 
 use crate::kernel::kernel;
+use residue::modulus::Modulus;
 use residue::ring::power;
 use roots::radicand::is_radicand;
 use scalar::vector::{is_constant, normalise};
@@ -21,18 +22,15 @@ pub struct Normalised {
 }
 
 // A vector v ≠ 0 divided by its first word that is not 0, and its n-th power, if it is a constant.
-fn divided(p: u64, n: usize, t: &[u64; 16], v: &[u64; 16]) -> Option<Normalised>
-    requires prime { Prime p }
-    requires sizes { (p ≤ 2 ^ 20) × (1 ≤ n) × (n ≤ 16) }
-    requires holds { Holds p n t.now }
-    requires not_zero { Holds p n v.now × (take n v.now ≡ constant n 0 → ⊥) }
-    ensures { MatchOption result
-        (NoConstant p n (take n t.now) (take n v.now))
-        (λ u. Divided p n (take n t.now) (take n v.now) u.vector u.constant) }
+fn divided(t: &Modulus, v: &[u64; 16]) -> Option<Normalised>
+    requires prime { Prime t.now.d.p }
+    requires not_zero { Holds t.now.d.p t.now.n v.now × (take t.now.n v.now ≡ constant t.now.n 0 → ⊥) }
+    ensures { MatchOption result (NoConstant t.now.d.p t.now.n (take t.now.n t.now.words) (take t.now.n v.now)) (λ u. Divided t.now.d.p t.now.n (take t.now.n t.now.words) (take t.now.n v.now) u.vector u.constant) }
 {
-    let vector = normalise(p, n, v);
-    let power = power(p, n, t, &vector, n as u64);
-    if !is_constant(p, n, &power) {
+    let n = t.n;
+    let vector = normalise(t.d.p, n, v);
+    let power = power(t, &vector, n as u64);
+    if !is_constant(t.d.p, n, &power) {
         return None;
     }
     Some(Normalised {
@@ -42,31 +40,28 @@ fn divided(p: u64, n: usize, t: &[u64; 16], v: &[u64; 16]) -> Option<Normalised>
 }
 
 // An eigenvector from the kernel: T has no proper divisor exactly if its n-th power is a constant. The array m is worked on.
-fn by_kernel(p: u64, n: usize, z: u64, t: &[u64; 16], m: &mut [u64; 256]) -> Option<Normalised>
-    requires admissible { Admissible p n }
-    requires order { (z < p) × OrderModulo p n z }
-    requires holds { Holds p n t.now }
+fn by_kernel(z: u64, t: &Modulus, m: &mut [u64; 256]) -> Option<Normalised>
+    requires admissible { Admissible t.now.d.p t.now.n }
+    requires order { (z < t.now.d.p) × OrderModulo t.now.d.p t.now.n z }
     requires matrix_size { length m.old ≡ 256 }
-    ensures eigenvector { MatchOption result
-        (has_divisor p (take n t.now) ≡ true)
-        (λ v. EigenvectorFound p n (take n t.now) z v.vector v.constant) }
+    ensures eigenvector { MatchOption result (has_divisor t.now.d.p (take t.now.n t.now.words) ≡ true) (λ v. EigenvectorFound t.now.d.p t.now.n (take t.now.n t.now.words) z v.vector v.constant) }
     ensures matrix_size { length m.new ≡ 256 }
 {
-    let v = kernel(p, n, z, t, m)?;
-    divided(p, n, t, &v)
+    let v = kernel(z, t, m)?;
+    divided(t, &v)
 }
 
 // An eigenvector from any vector v ≠ 0: if its n-th power, after division by its first word that is not 0, is a constant b and b^((p − 1)/n) = ζ, then it is one, and no
 // p-th power is needed. Where that test fails, nothing is said.
-fn by_power(p: u64, n: usize, z: u64, t: &[u64; 16], v: &[u64; 16]) -> Option<Normalised>
-    requires admissible { Admissible p n }
-    requires order { (z < p) × OrderModulo p n z }
-    requires holds { Holds p n t.now }
-    requires not_zero { Holds p n v.now × (take n v.now ≡ constant n 0 → ⊥) }
-    ensures { IfSome result (λ u. EigenvectorFound p n (take n t.now) z u.vector u.constant) }
+fn by_power(z: u64, t: &Modulus, v: &[u64; 16]) -> Option<Normalised>
+    requires admissible { Admissible t.now.d.p t.now.n }
+    requires order { (z < t.now.d.p) × OrderModulo t.now.d.p t.now.n z }
+    requires not_zero { Holds t.now.d.p t.now.n v.now × (take t.now.n v.now ≡ constant t.now.n 0 → ⊥) }
+    ensures { IfSome result (λ u. EigenvectorFound t.now.d.p t.now.n (take t.now.n t.now.words) z u.vector u.constant) }
 {
-    let root = divided(p, n, t, v)?;
-    if is_radicand(p, n as u64, z, root.constant) {
+    let n = t.n;
+    let root = divided(t, v)?;
+    if is_radicand(t.d.p, n as u64, z, root.constant) {
         Some(root)
     } else {
         None
@@ -74,39 +69,30 @@ fn by_power(p: u64, n: usize, z: u64, t: &[u64; 16], v: &[u64; 16]) -> Option<No
 }
 
 // 2X + t1, whose square modulo X² + t1·X + t0 is the constant t1² − 4·t0.
-fn completed_square(p: u64, n: usize, t: &[u64; 16]) -> [u64; 16]
-    requires sizes { (2 < p) × (n ≡ 2) }
-    requires holds { Holds p n t.now }
-    ensures { Holds p n result × (take n result ≡ constant n 0 → ⊥) }
+fn completed_square(t: &Modulus) -> [u64; 16]
+    requires { (2 < t.now.d.p) × (t.now.n ≡ 2) }
+    ensures { Holds t.now.d.p t.now.n result × (take t.now.n result ≡ constant t.now.n 0 → ⊥) }
 {
     let mut v = [0; 16];
-    v[0] = t[1];
+    v[0] = t.words[1];
     v[1] = 2;
     v
 }
 
 // An eigenvector, if T has no monic divisor of degree 1 to n − 1: for n = 2 by completing the
 // square. The array m is worked on.
-pub fn eigenvector(
-    p: u64,
-    n: usize,
-    z: u64,
-    t: &[u64; 16],
-    m: &mut [u64; 256],
-) -> Option<Normalised>
-    requires admissible { Admissible p n }
-    requires order { (z < p) × OrderModulo p n z }
-    requires holds { Holds p n t.now }
+pub fn eigenvector(z: u64, t: &Modulus, m: &mut [u64; 256]) -> Option<Normalised>
+    requires admissible { Admissible t.now.d.p t.now.n }
+    requires order { (z < t.now.d.p) × OrderModulo t.now.d.p t.now.n z }
     requires matrix_size { length m.old ≡ 256 }
-    ensures eigenvector { MatchOption result
-        (has_divisor p (take n t.now) ≡ true)
-        (λ v. EigenvectorFound p n (take n t.now) z v.vector v.constant) }
+    ensures eigenvector { MatchOption result (has_divisor t.now.d.p (take t.now.n t.now.words) ≡ true) (λ v. EigenvectorFound t.now.d.p t.now.n (take t.now.n t.now.words) z v.vector v.constant) }
     ensures matrix_size { length m.new ≡ 256 }
 {
+    let n = t.n;
     if n == 2 {
-        if let Some(root) = by_power(p, n, z, t, &completed_square(p, n, t)) {
+        if let Some(root) = by_power(z, t, &completed_square(t)) {
             return Some(root);
         }
     }
-    by_kernel(p, n, z, t, m)
+    by_kernel(z, t, m)
 }

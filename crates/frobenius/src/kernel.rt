@@ -9,36 +9,37 @@ use comparison::equality::same;
 use linear::system::{Solution, solve};
 use matrix::frobenius::frobenius;
 use matrix::product::apply;
+use modular::barrett::Barrett;
+use residue::modulus::Modulus;
 use resolvent::lagrange::resolvent;
 use scalar::shift::minus;
 use scalar::vector::{first_non_zero, scale};
 
 // Whether v is not 0 and the matrix m takes it to z·v.
-fn is_eigenvector(p: u64, n: usize, z: u64, m: &[u64; 256], v: &[u64; 16]) -> bool
-    requires sizes { (2 ≤ p) × (p ≤ 2 ^ 20) × (n ≤ 16) × (z < p) }
-    requires square { Square p n m.now × Holds p n v.now }
-    ensures { result ≡ true → Stretched p n z m.now (take n v.now) }
+fn is_eigenvector(d: Barrett, n: usize, z: u64, m: &[u64; 256], v: &[u64; 16]) -> bool
+    requires sizes { (n ≤ 16) × (z < d.p) }
+    requires square { Square d.p n m.now × Holds d.p n v.now }
+    ensures { result ≡ true → Stretched d.p n z m.now (take n v.now) }
 {
-    if first_non_zero(p, n, v) == 0 {
+    if first_non_zero(d.p, n, v) == 0 {
         return false;
     }
-    let image = apply(p, n, m, v);
-    let multiple = scale(p, n, z, v);
+    let image = apply(d, n, m, v);
+    let multiple = scale(d.p, n, z, v);
     same(n, &image, &multiple)
 }
 
 // A vector other than 0 in the kernel of u ↦ u^p − z·u, if there is one, by elimination from the
 // matrix m of u ↦ u^p. The system is written into m.
-fn by_elimination(p: u64, n: usize, z: u64, t: &[u64; 16], m: &mut [u64; 256]) -> Option<[u64; 16]>
-    requires prime { Prime p }
-    requires sizes { (p ≤ 2 ^ 20) × (1 ≤ n) × (n ≤ 16) × (z < p) }
-    requires holds { Holds p n t.now }
-    requires frobenius { Frobenius p n (take n t.now) m.old }
-    ensures kernel { MatchOption result (TrivialKernel p n (take n t.now) z) (λ v. Kernel p n (take n t.now) z v) }
+fn by_elimination(z: u64, t: &Modulus, m: &mut [u64; 256]) -> Option<[u64; 16]>
+    requires prime { Prime t.now.d.p }
+    requires sizes { z < t.now.d.p }
+    requires frobenius { Frobenius t.now.d.p t.now.n (take t.now.n t.now.words) m.old }
+    ensures kernel { MatchOption result (TrivialKernel t.now.d.p t.now.n (take t.now.n t.now.words) z) (λ v. Kernel t.now.d.p t.now.n (take t.now.n t.now.words) z v) }
     ensures matrix_size { length m.new ≡ 256 }
 {
-    minus(p, n, z, m);
-    match solve(p, n, m, [0; 16]) {
+    minus(t.d.p, t.n, z, m);
+    match solve(t.d.p, t.n, m, [0; 16]) {
         Solution::Unique(_) => None,
         Solution::NullVector(v) => Some(v),
     }
@@ -46,21 +47,21 @@ fn by_elimination(p: u64, n: usize, z: u64, t: &[u64; 16], m: &mut [u64; 256]) -
 
 // A vector other than 0 in the kernel of u ↦ u^p − z·u, if there is one: the resolvent, if it
 // passes the test, else by elimination. For n < 4 elimination is as fast. The array m is worked on.
-pub fn kernel(p: u64, n: usize, z: u64, t: &[u64; 16], m: &mut [u64; 256]) -> Option<[u64; 16]>
-    requires prime { Prime p }
-    requires sizes { (p ≤ 2 ^ 20) × (1 ≤ n) × (n ≤ 16) × (z < p) }
-    requires holds { Holds p n t.now }
+pub fn kernel(z: u64, t: &Modulus, m: &mut [u64; 256]) -> Option<[u64; 16]>
+    requires prime { Prime t.now.d.p }
+    requires sizes { z < t.now.d.p }
     requires matrix_size { length m.old ≡ 256 }
-    ensures kernel { MatchOption result (TrivialKernel p n (take n t.now) z) (λ v. Kernel p n (take n t.now) z v) }
+    ensures kernel { MatchOption result (TrivialKernel t.now.d.p t.now.n (take t.now.n t.now.words) z) (λ v. Kernel t.now.d.p t.now.n (take t.now.n t.now.words) z v) }
     ensures matrix_size { length m.new ≡ 256 }
 {
-    frobenius(p, n, t, m);
+    let n = t.n;
+    frobenius(t, m);
     if n < 4 {
-        return by_elimination(p, n, z, t, m);
+        return by_elimination(z, t, m);
     }
-    let v = resolvent(p, n, z, m);
-    if is_eigenvector(p, n, z, m, &v) {
+    let v = resolvent(t.d, n, z, m);
+    if is_eigenvector(t.d, n, z, m, &v) {
         return Some(v);
     }
-    by_elimination(p, n, z, t, m)
+    by_elimination(z, t, m)
 }

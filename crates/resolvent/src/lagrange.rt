@@ -75,12 +75,11 @@ fn reduce(d: Barrett, n: usize, sums: &[u64; 16]) -> [u64; 16]
 }
 
 // The resolvent for the matrix m of F. The inverse of z is z^(n−1).
-pub fn resolvent(p: u64, n: usize, z: u64, m: &[u64; 256]) -> [u64; 16]
-    requires bounds { (2 ≤ p) × (p ≤ 2 ^ 20) × (1 ≤ n) × (n ≤ 16) × (z < p) }
-    requires square { Square p n m.now }
-    ensures { Holds p n result }
+pub fn resolvent(d: Barrett, n: usize, z: u64, m: &[u64; 256]) -> [u64; 16]
+    requires sizes { (1 ≤ n) × (n ≤ 16) × (z < d.p) }
+    requires square { Square d.p n m.now }
+    ensures { Holds d.p n result }
 {
-    let d = Barrett::new(p);
-    let y = power(p, z, n as u64 - 1);
+    let y = power(d.p, z, n as u64 - 1);
     reduce(d, n, &sum_of_terms(d, n, y, m))
 }

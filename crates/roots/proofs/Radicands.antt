@@ -15,7 +15,6 @@ use Rattle.algebra.specs.Search.{Smallest}
 use Rattle.algebra.proofs.NumberScan.{Searched, searched_turn}
 use Rattle.algebra.proofs.Smallest.{first_is_smallest, smallest_unique}
 use Rattle.modular.specs.declared.barrett.Barrett.{Barrett}
-use Rattle.modular.specs.Barrett.{Reduces}
 use Rattle.character.specs.Table.{Table}
 use Rattle.character.proofs.Empty.{table_empty}
 use Rattle.roots.specs.Roots.{radicand, Admissible, OrderModulo, Radicand, Solvable}
@@ -40,18 +39,16 @@ one_power (suc k) = pow-suc 1 k ∙ mul-one (1 ^ k) ∙ one_power k
 
 pub record RadicandScan (p n z : ℕ) (d : Barrett) (c : List ℕ) (a w : ℕ) : Type 0 where
   pub modulus : d.p ≡ p
-  pub reduces : Reduces d
   pub table : Table d.p ((p - 1) / n) c
   pub searched : Searched (IsRadicand p n z) 1 p a
   pub power_is : w ≡ a ^ ((p - 1) / n) % p
 
 module _ (p n z : ℕ) (h : Admissible p n) (below : z < p) (order : OrderModulo p n z) where
-  pub scan_start : (d : Barrett) → d.p ≡ p → Reduces d → RadicandScan p n z d (replicate 128 0) 1 1
-  scan_start d e r =
+  pub scan_start : (d : Barrett) → d.p ≡ p → RadicandScan p n z d (replicate 128 0) 1 1
+  scan_start d e =
       record {
         modulus = e;
-        reduces = r;
-        table = table_empty d.p ((p - 1) / n) (omega (arith, r.big));
+        table = table_empty d.p ((p - 1) / n) (omega (arith, d.reduces.big));
         searched = record { from = omega arith; to = omega (arith, h.prime.0); others = λ j high low. absurd (omega arith) };
         power_is = sym (ap (λ x. x % p) (one_power ((p - 1) / n)) ∙ mod-eq_of_lt h.prime.0);
       }
@@ -70,7 +67,6 @@ module _ (p n z : ℕ) (h : Admissible p n) (below : z < p) (order : OrderModulo
     scan_turn other c' v t e =
         record {
           modulus = s.modulus;
-          reduces = s.reduces;
           table = t;
           searched = ahead other;
           power_is = e ∙ ap (λ q. (a + 1) ^ ((p - 1) / n) % q) s.modulus;

@@ -11,19 +11,18 @@ use linear::system::{Solution, solve};
 use matrix::frobenius::frobenius;
 use matrix::powers::place;
 use modular::word::inverse;
+use residue::modulus::Modulus;
 use scalar::shift::minus;
 use scalar::vector::scale;
 
 // The matrix of u ↦ u^p − u.
-pub fn differences(p: u64, n: usize, t: &[u64; 16], m: &mut [u64; 256])
-    requires prime { Prime p }
-    requires sizes { (p ≤ 2 ^ 20) × (1 ≤ n) × (n ≤ 16) }
-    requires holds { Holds p n t.now }
+pub fn differences(t: &Modulus, m: &mut [u64; 256])
+    requires prime { Prime t.now.d.p }
     requires matrix_size { length m.old ≡ 256 }
-    ensures { Differences p n (take n t.now) m.new }
+    ensures { Differences t.now.d.p t.now.n (take t.now.n t.now.words) m.new }
 {
-    frobenius(p, n, t, m);
-    minus(p, n, 1, m);
+    frobenius(t, m);
+    minus(t.d.p, t.n, 1, m);
 }
 
 // −w/u[0] for w = (0, u[1], …, u[n − 1]).
@@ -39,23 +38,17 @@ fn divided(p: u64, n: usize, u: &[u64; 16]) -> [u64; 16]
 }
 
 // The solution of v^p = v + a with constant coefficient 0, where c is the matrix of u ↦ u^p − u. Where none is found, there is none, or T has a monic divisor of degree 1 to n − 1.
-pub fn artin_schreier(
-    p: u64,
-    n: usize,
-    t: &[u64; 16],
-    c: &[u64; 256],
-    a: &[u64; 16],
-) -> Option<[u64; 16]>
-    requires prime { Prime p }
-    requires sizes { (p ≤ 2 ^ 20) × (1 ≤ n) × (n ≤ 16) }
-    requires holds { Holds p n t.now × Holds p n a.now }
-    requires differences { Differences p n (take n t.now) c.now }
-    ensures { MatchOption result (Unsolved p n (take n t.now) (take n a.now)) (λ v. Solved p n (take n t.now) (take n a.now) v) }
+pub fn artin_schreier(t: &Modulus, c: &[u64; 256], a: &[u64; 16]) -> Option<[u64; 16]>
+    requires prime { Prime t.now.d.p }
+    requires holds { Holds t.now.d.p t.now.n a.now }
+    requires differences { Differences t.now.d.p t.now.n (take t.now.n t.now.words) c.now }
+    ensures { MatchOption result (Unsolved t.now.d.p t.now.n (take t.now.n t.now.words) (take t.now.n a.now)) (λ v. Solved t.now.d.p t.now.n (take t.now.n t.now.words) (take t.now.n a.now) v) }
 {
+    let n = t.n;
     let mut system = *c;
     place(n, 0, a, &mut system);
-    match solve(p, n, &mut system, [0; 16]) {
-        Solution::NullVector(u) if u[0] != 0 => Some(divided(p, n, &u)),
+    match solve(t.d.p, n, &mut system, [0; 16]) {
+        Solution::NullVector(u) if u[0] != 0 => Some(divided(t.d.p, n, &u)),
         _ => None,
     }
 }

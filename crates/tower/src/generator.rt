@@ -8,33 +8,32 @@ ghost use Rattle.quotient.specs.DivisorTest.{has_divisor};
 ghost use Rattle.tower.specs.Generator.{GeneratorFound};
 
 use crate::equation::{artin_schreier, differences};
-use residue::ring::{power, product};
+use residue::modulus::Modulus;
+use residue::ring::{multiply, power};
 
 // a·α^(p − 1).
-fn raised(p: u64, n: usize, t: &[u64; 16], a: &[u64; 16], alpha: &[u64; 16]) -> [u64; 16]
-    requires sizes { (2 ≤ p) × (p ≤ 2 ^ 20) × (1 ≤ n) × (n ≤ 16) }
-    requires holds { Holds p n t.now × Holds p n a.now × Holds p n alpha.now }
-    ensures value { result ≡ padded (raised p (take n t.now) (take n a.now) (take n alpha.now)) }
-    ensures holds { Holds p n result }
+fn raised(t: &Modulus, a: &[u64; 16], alpha: &[u64; 16]) -> [u64; 16]
+    requires { Holds t.now.d.p t.now.n a.now × Holds t.now.d.p t.now.n alpha.now }
+    ensures value { result ≡ padded (raised t.now.d.p (take t.now.n t.now.words) (take t.now.n a.now) (take t.now.n alpha.now)) }
+    ensures holds { Holds t.now.d.p t.now.n result }
 {
-    product(p, n, t, a, &power(p, n, t, alpha, p - 1))
+    multiply(t, a, &power(t, alpha, t.d.p - 1))
 }
 
 // α, if T has no monic divisor of degree 1 to n − 1. In the first round a is 1.
-pub fn generator(p: u64, n: usize, k: u64, t: &[u64; 16]) -> Option<[u64; 16]>
-    requires prime { Prime p }
-    requires sizes { (p ≤ 2 ^ 20) × (1 ≤ n) × (n ≤ 16) × (1 ≤ k) × (n ≡ p ^ k) }
-    requires holds { Holds p n t.now }
-    ensures { MatchOption result (has_divisor p (take n t.now) ≡ true) (λ v. GeneratorFound p n (take n t.now) k v) }
+pub fn generator(k: u64, t: &Modulus) -> Option<[u64; 16]>
+    requires prime { Prime t.now.d.p }
+    requires sizes { (1 ≤ k) × (t.now.n ≡ t.now.d.p ^ k) }
+    ensures { MatchOption result (has_divisor t.now.d.p (take t.now.n t.now.words) ≡ true) (λ v. GeneratorFound t.now.d.p t.now.n (take t.now.n t.now.words) k v) }
 {
     let mut c = [0; 256];
-    differences(p, n, t, &mut c);
+    differences(t, &mut c);
     let mut a = [0; 16];
     a[0] = 1;
-    let mut alpha = artin_schreier(p, n, t, &c, &a)?;
+    let mut alpha = artin_schreier(t, &c, &a)?;
     for _round in 1..k {
-        a = raised(p, n, t, &a, &alpha);
-        alpha = artin_schreier(p, n, t, &c, &a)?;
+        a = raised(t, &a, &alpha);
+        alpha = artin_schreier(t, &c, &a)?;
     }
     Some(alpha)
 }

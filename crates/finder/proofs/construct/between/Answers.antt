@@ -4,10 +4,10 @@ use Rattle.finder.proofs.construct.Constructed.{alpha1_holds, alpha2_holds, firs
 use Rattle.finder.proofs.construct.between.Goals as goal
 
 pub powers-requires-clause-holds : goal.powers-requires-clause-holds
-powers-requires-clause-holds c = (search rules, search alpha1_holds)
+powers-requires-clause-holds c = search alpha1_holds
 
 pub powers-requires-2-clause-holds : goal.powers-requires-2-clause-holds
-powers-requires-2-clause-holds c = (search rules, search alpha2_holds)
+powers-requires-2-clause-holds c = search alpha2_holds
 
 pub image-requires-clause-square : goal.image-requires-clause-square
 image-requires-clause-square c = (search (first_square, c.powers.ensures.powers), search (second_square, c.powers-2.ensures.powers))

@@ -1,12 +1,11 @@
-use Rattle.std.proofs.Common.{rules}
 use Rattle.roots.proofs.Radicands.{scan_start, scan_within, scan_turn, scan_found, scan_end}
 use Rattle.roots.proofs.radicand.radicand.Goals as goal
 
 pub loop-w-init : goal.loop-w-init
 loop-w-init c = search scan_start
 
-pub next-w-requires-clause-reduces : goal.next-w-requires-clause-reduces
-next-w-requires-clause-reduces c = (search rules, search scan_within)
+pub next-w-requires-clause-below : goal.next-w-requires-clause-below
+next-w-requires-clause-below c = search scan_within
 
 pub loop-w-preserved : goal.loop-w-preserved
 loop-w-preserved c = search scan_turn

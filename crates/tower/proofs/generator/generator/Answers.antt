@@ -1,10 +1,9 @@
 -- `generator`: the first round with a = 1, and the others.
-use Rattle.std.proofs.Common.{rules}
 use Rattle.tower.proofs.generator.ArrayRounds.{one_holds, first_reached, first_none, next_reached, next_none, last_reached}
 use Rattle.tower.proofs.generator.generator.Goals as goal
 
 pub artin_schreier-requires-clause-holds : goal.artin_schreier-requires-clause-holds
-artin_schreier-requires-clause-holds c = (search rules, search one_holds)
+artin_schreier-requires-clause-holds c = search one_holds
 
 pub returns-in_err-alpha : goal.returns-in_err-alpha
 returns-in_err-alpha c = rw c.from_residual.ensures (search (first_none, c.in_err-alpha.ensures))

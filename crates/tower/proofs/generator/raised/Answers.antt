@@ -3,8 +3,8 @@ use Rattle.std.proofs.Common.{rules}
 use Rattle.tower.proofs.generator.ArrayRounds.{power_holds, raised_is, raised_holds}
 use Rattle.tower.proofs.generator.raised.Goals as goal
 
-pub product-requires-clause-holds : goal.product-requires-clause-holds
-product-requires-clause-holds c = (search rules, search rules, search power_holds)
+pub multiply-requires : goal.multiply-requires
+multiply-requires c = (search rules, search power_holds)
 
 pub returns-clause-value : goal.returns-clause-value
 returns-clause-value c = search raised_is
