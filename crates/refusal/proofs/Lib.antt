@@ -5,4 +5,3 @@ pub mod Models
 pub mod Tests
 pub mod Written
 pub mod Refused
-pub mod Former

@@ -1,9 +1,9 @@
 -- The tests behind 1 to 4: by what they say, the first of 1 to 4 that applies.
 --   degree_low, degree_high       the test of n
 --   lengths_tested, words_tested  the tests of the lengths and of the words of lists
---   by_prime, by_degree, by_exact, by_lengths, by_words, by_none    the number, by the first test that fails, if any
+--   by_prime, by_degree, by_lengths, by_words, by_none    the number, by the first test that fails, if any
 use Rattle.std.specs.List.{All}
-use Rattle.std.proofs.Common.{◌≡◌, refl, ℕ, zero, suc, ◌≤◌, ◌<◌, ◌↔◌, Bool, true, false, not, IsTrue, List, [], ◌∷◌, length, map, Bor, arith}
+use Rattle.std.proofs.Common.{◌||◌, ◌≡◌, refl, sym, ℕ, zero, suc, ◌≤◌, ◌<◌, ◌↔◌, Bool, true, false, not, IsTrue, List, [], ◌∷◌, length, map, Bor, arith}
 use borrow.Author.Tests.{le-leb, lt-leb}
 use lib.Dec.{leb}
 use Rattle.algebra.specs.Lists as Lists
@@ -41,11 +41,12 @@ opposite false true f g = refl
 opposite false false f g = g refl
 
 module _ (n : ℕ) (xs : List (Bor (List ℕ))) (r : Bool) where
-  pub lengths_tested : (IsTrue r ↔ All (λ x. length x.now ≡ n) xs) → bad_length n (pointed xs) ≡ not r
-  lengths_tested e =
+  pub lengths_tested : (exact : Bool) → (IsTrue r ↔ (exact ≡ true) × All (λ x. length x.now ≡ n) xs) → (not exact || bad_length n (pointed xs)) ≡ not r
+  lengths_tested true e =
       opposite r (bad_length n (pointed xs))
-      (λ h. given_lengths n (pointed xs) (of_places (λ x. length x ≡ n) xs (e.0 h)))
-      (λ h. e.1 (at_places (λ x. length x ≡ n) xs (lengths_given n (pointed xs) h)))
+      (λ h. given_lengths n (pointed xs) (of_places (λ x. length x ≡ n) xs (e.0 h).1))
+      (λ h. e.1 (refl, at_places (λ x. length x ≡ n) xs (lengths_given n (pointed xs) h)))
+  lengths_tested false e = opposite r true (λ h. sym (e.0 h).0) (λ h. grind (arith, h))
 
   pub words_tested : (IsTrue r ↔ All (λ x. all_below n x.now ≡ true) xs) → bad_word n (pointed xs) ≡ not r
   words_tested e =
@@ -67,18 +68,14 @@ module _ (p n : ℕ) (exact : Bool) (xss yss : List (List ℕ)) where
   unfolding bad_prime bad_degree
   by_degree a b = rw (a, b)
 
-  pub by_exact : is_prime p ≡ true → is_degree n ≡ true → exact ≡ false → 3 ≡ number
+  pub by_lengths : is_prime p ≡ true → is_degree n ≡ true → (not exact || bad_length n xss) ≡ true → 3 ≡ number
   unfolding bad_prime bad_degree
-  by_exact a b c = rw (a, b, c)
+  by_lengths a b c = rw (a, b, c)
 
-  pub by_lengths : is_prime p ≡ true → is_degree n ≡ true → exact ≡ true → bad_length n xss ≡ true → 3 ≡ number
+  pub by_words : is_prime p ≡ true → is_degree n ≡ true → (not exact || bad_length n xss) ≡ false → bad_word p yss ≡ true → 4 ≡ number
   unfolding bad_prime bad_degree
-  by_lengths a b c d = rw (a, b, c, d)
+  by_words a b c d = rw (a, b, c, d)
 
-  pub by_words : is_prime p ≡ true → is_degree n ≡ true → exact ≡ true → bad_length n xss ≡ false → bad_word p yss ≡ true → 4 ≡ number
+  pub by_none : is_prime p ≡ true → is_degree n ≡ true → (not exact || bad_length n xss) ≡ false → bad_word p yss ≡ false → 0 ≡ number
   unfolding bad_prime bad_degree
-  by_words a b c d e = rw (a, b, c, d, e)
-
-  pub by_none : is_prime p ≡ true → is_degree n ≡ true → exact ≡ true → bad_length n xss ≡ false → bad_word p yss ≡ false → 0 ≡ number
-  unfolding bad_prime bad_degree
-  by_none a b c d e = rw (a, b, c, d, e)
+  by_none a b c d = rw (a, b, c, d)
