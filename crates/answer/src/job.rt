@@ -13,25 +13,16 @@ use card::kind::Kind;
 use card::layout::byte_count;
 use finder::find::find;
 use refusal::Refusal;
+use text::bytes::put;
 use writer::writer::write;
-
-// The words of xs from the place `at` on: the place behind them.
-fn put_words(words: &mut [Word], at: usize, xs: &[Word]) -> usize
-    requires { at + length xs.now ≤ length words.old }
-    ensures { Appended at xs.now words.old words.new result }
-{
-    let end = at + xs.len();
-    words[at..end].copy_from_slice(xs);
-    end
-}
 
 // The words of s and then those of r from the place `at` on.
 fn put_both(words: &mut [Word], at: usize, s: &[Word], r: &[Word]) -> usize
     requires { at + (length s.now + length r.now) ≤ length words.old }
     ensures { Appended at (s.now ++ r.now) words.old words.new result }
 {
-    let end = put_words(words, at, s);
-    put_words(words, end, r)
+    let end = put(words, at, s);
+    put(words, end, r)
 }
 
 // The finder's call for T1 and T2, the first two parts of the words.

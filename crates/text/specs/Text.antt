@@ -3,7 +3,7 @@
 --   Begins xs list end                the list begins with xs, and `end` is the place behind them
 use Rattle.std.specs.Prelude.{◌≡◌, List, ◌++◌, ℕ, ◌+◌, ◌≤◌, length, take}
 
-pub record Appended (at : ℕ) (xs before after : List ℕ) (end : ℕ) : Type 0 where
+pub record Appended {A : Type 0} (at : ℕ) (xs before after : List A) (end : ℕ) : Type 0 where
   pub end_is : end ≡ at + length xs
   pub list_is : take end after ≡ take at before ++ xs
 

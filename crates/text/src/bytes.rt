@@ -11,8 +11,8 @@ pub fn put_byte(text: &mut [u8], at: usize, byte: u8) -> usize
     at + 1
 }
 
-// The bytes of xs.
-pub fn put(text: &mut [u8], at: usize, xs: &[u8]) -> usize
+// The elements of xs: bytes of a text, or words of a list.
+pub fn put<T: Copy>(text: &mut [T], at: usize, xs: &[T]) -> usize
     requires { at + length xs.now ≤ length text.old }
     ensures { Appended at xs.now text.old text.new result }
 {
