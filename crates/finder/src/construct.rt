@@ -1,8 +1,8 @@
-// The finder on arrays of 16 words: Algorithm 2.1 with the choices of document 01, normalised as document 02, S-6, says, where n divides p − 1; where n is a power of p, Algorithm 4.1
-// with the choice of S-7.
+// The finder on two moduli of one prime and one degree: Algorithm 2.1 with the choices of document
+// 01, normalised as document 02, S-6, says, where n divides p − 1; where n is a power of p,
+// Algorithm 4.1 with the choice of S-7.
 ghost use Rattle.std.specs.Prelude.{◌≡◌, ◌^◌, ◌≤◌, ◌<◌, length, take, IfOk};
 ghost use Rattle.algebra.specs.Prime.{Prime};
-ghost use Rattle.array.specs.Array.{Holds};
 ghost use Rattle.refusal.specs.Number.{number_of};
 ghost use Rattle.finder.specs.Construct.{Size, Choices, FoundPair};
 ghost use Rattle.finder.specs.Finder.{refuse_find};
@@ -14,6 +14,7 @@ use frobenius::image::image;
 use frobenius::scaling::scaling;
 use matrix::powers::powers;
 use refusal::Refusal;
+use residue::modulus::Modulus;
 use roots::radicand::radicand;
 use roots::root::prepare;
 use roots::unity::zeta;
@@ -30,21 +31,19 @@ pub struct Pair {
 // The pair from α1 and α2, by whatever method they were found: S = P1(α2) and R = P2(α1), where Pi(αi) = X modulo Ti. Only for speed is a the constant α1^n = α2^n, or 0 where these are none.
 // The powers of α1 are written into the array m.
 fn between(
-    p: u64,
-    n: usize,
     a: u64,
-    t1: &[u64; 16],
-    t2: &[u64; 16],
+    t1: &Modulus,
+    t2: &Modulus,
     alpha1: &[u64; 16],
     alpha2: &[u64; 16],
     m: &mut [u64; 256],
 ) -> Pair
-    requires size { Size p n }
-    requires holds { Holds p n t1.now × Holds p n t2.now }
+    requires size { Size t1.now.d.p t1.now.n }
+    requires same { (t2.now.d.p ≡ t1.now.d.p) × (t2.now.n ≡ t1.now.n) }
     requires matrix_size { length m.old ≡ 256 }
-    requires constant_below { a < p }
-    requires choices { Choices p n (take n t1.now) (take n t2.now) alpha1.now alpha2.now }
-    ensures { FoundPair p n (take n t1.now) (take n t2.now) 0 result.forward result.backward }
+    requires constant_below { a < t1.now.d.p }
+    requires choices { Choices t1.now.d.p t1.now.n (take t1.now.n t1.now.words) (take t1.now.n t2.now.words) alpha1.now alpha2.now }
+    ensures { FoundPair t1.now.d.p t1.now.n (take t1.now.n t1.now.words) (take t1.now.n t2.now.words) 0 result.forward result.backward }
 {
     let mut w = [0; 256];
     powers(t1, alpha1, m);
@@ -57,69 +56,70 @@ fn between(
 
 // The pair from an eigenvector of each model: α1 and α2 are their scalings whose n-th power is a, which both models have in common.
 fn from_scalings(
-    p: u64,
-    n: usize,
     z: u64,
-    t1: &[u64; 16],
-    t2: &[u64; 16],
+    t1: &Modulus,
+    t2: &Modulus,
     first: Normalised,
     second: Normalised,
     m: &mut [u64; 256],
 ) -> Pair
-    requires admissible { Admissible p n }
-    requires zeta { (z < p) × (z ≡ zeta p n) }
-    requires holds { Holds p n t1.now × Holds p n t2.now }
+    requires admissible { Admissible t1.now.d.p t1.now.n }
+    requires same { (t2.now.d.p ≡ t1.now.d.p) × (t2.now.n ≡ t1.now.n) }
+    requires zeta { (z < t1.now.d.p) × (z ≡ zeta t1.now.d.p t1.now.n) }
     requires matrix_size { length m.old ≡ 256 }
-    requires first_found { EigenvectorFound p n (take n t1.now) z first.vector first.constant }
-    requires second_found { EigenvectorFound p n (take n t2.now) z second.vector second.constant }
-    ensures { FoundPair p n (take n t1.now) (take n t2.now) 0 result.forward result.backward }
+    requires first_found { EigenvectorFound t1.now.d.p t1.now.n (take t1.now.n t1.now.words) z first.vector first.constant }
+    requires second_found { EigenvectorFound t1.now.d.p t1.now.n (take t1.now.n t2.now.words) z second.vector second.constant }
+    ensures { FoundPair t1.now.d.p t1.now.n (take t1.now.n t1.now.words) (take t1.now.n t2.now.words) 0 result.forward result.backward }
 {
+    let p = t1.d.p;
+    let n = t1.n;
     let a = radicand(p, n as u64, z);
     let by = prepare(p, n as u64, a);
     let alpha1 = scaling(p, n, z, by, a, first);
     let alpha2 = scaling(p, n, z, by, a, second);
-    between(p, n, a, t1, t2, &alpha1, &alpha2, m)
+    between(a, t1, t2, &alpha1, &alpha2, m)
 }
 
 // S and R for the two models, or the refusal of a modulus with a monic divisor of degree 1 to n − 1. One array serves both kernels and a matrix of powers.
-fn from_eigenvectors(p: u64, n: usize, t1: &[u64; 16], t2: &[u64; 16]) -> Result<Pair, Refusal>
-    requires admissible { Admissible p n }
-    requires holds { Holds p n t1.now × Holds p n t2.now }
-    ensures number { number_of result ≡ refuse_find p n (take n t1.now) (take n t2.now) }
-    ensures pair { IfOk result (λ pair. FoundPair p n (take n t1.now) (take n t2.now) 0 pair.forward pair.backward) }
+fn from_eigenvectors(t1: &Modulus, t2: &Modulus) -> Result<Pair, Refusal>
+    requires admissible { Admissible t1.now.d.p t1.now.n }
+    requires same { (t2.now.d.p ≡ t1.now.d.p) × (t2.now.n ≡ t1.now.n) }
+    ensures number { number_of result ≡ refuse_find t1.now.d.p t1.now.n (take t1.now.n t1.now.words) (take t1.now.n t2.now.words) }
+    ensures pair { IfOk result (λ pair. FoundPair t1.now.d.p t1.now.n (take t1.now.n t1.now.words) (take t1.now.n t2.now.words) 0 pair.forward pair.backward) }
 {
     let mut m = [0; 256];
-    let z = zeta(p, n as u64);
+    let z = zeta(t1.d.p, t1.n as u64);
     let first = eigenvector(z, t1, &mut m).ok_or(Refusal::FirstModulus)?;
     let second = eigenvector(z, t2, &mut m).ok_or(Refusal::SecondModulus)?;
-    Ok(from_scalings(p, n, z, t1, t2, first, second, &mut m))
+    Ok(from_scalings(z, t1, t2, first, second, &mut m))
 }
 
 // The same from the rounds of Algorithm 4.1, where n = p^k.
-fn from_rounds(p: u64, n: usize, k: u64, t1: &[u64; 16], t2: &[u64; 16]) -> Result<Pair, Refusal>
-    requires size { Size p n }
-    requires exponent { (1 ≤ k) × (n ≡ p ^ k) }
-    requires holds { Holds p n t1.now × Holds p n t2.now }
-    ensures number { number_of result ≡ refuse_find p n (take n t1.now) (take n t2.now) }
-    ensures pair { IfOk result (λ pair. FoundPair p n (take n t1.now) (take n t2.now) 0 pair.forward pair.backward) }
+fn from_rounds(k: u64, t1: &Modulus, t2: &Modulus) -> Result<Pair, Refusal>
+    requires size { Size t1.now.d.p t1.now.n }
+    requires same { (t2.now.d.p ≡ t1.now.d.p) × (t2.now.n ≡ t1.now.n) }
+    requires exponent { (1 ≤ k) × (t1.now.n ≡ t1.now.d.p ^ k) }
+    ensures number { number_of result ≡ refuse_find t1.now.d.p t1.now.n (take t1.now.n t1.now.words) (take t1.now.n t2.now.words) }
+    ensures pair { IfOk result (λ pair. FoundPair t1.now.d.p t1.now.n (take t1.now.n t1.now.words) (take t1.now.n t2.now.words) 0 pair.forward pair.backward) }
 {
     let alpha1 = generator(k, t1).ok_or(Refusal::FirstModulus)?;
     let alpha2 = generator(k, t2).ok_or(Refusal::SecondModulus)?;
     let mut m = [0; 256];
-    Ok(between(p, n, 0, t1, t2, &alpha1, &alpha2, &mut m))
+    Ok(between(0, t1, t2, &alpha1, &alpha2, &mut m))
 }
 
 // The same by the method for p and n, or the refusal of an n that neither divides p − 1 nor is a power of p.
-pub fn construct(p: u64, n: usize, t1: &[u64; 16], t2: &[u64; 16]) -> Result<Pair, Refusal>
-    requires prime { Prime p }
-    requires sizes { (p ≤ 2 ^ 20) × (1 ≤ n) × (n ≤ 16) }
-    requires holds { Holds p n t1.now × Holds p n t2.now }
-    ensures number { number_of result ≡ refuse_find p n (take n t1.now) (take n t2.now) }
-    ensures pair { IfOk result (λ pair. FoundPair p n (take n t1.now) (take n t2.now) 0 pair.forward pair.backward) }
+pub fn construct(t1: &Modulus, t2: &Modulus) -> Result<Pair, Refusal>
+    requires prime { Prime t1.now.d.p }
+    requires same { (t2.now.d.p ≡ t1.now.d.p) × (t2.now.n ≡ t1.now.n) }
+    ensures number { number_of result ≡ refuse_find t1.now.d.p t1.now.n (take t1.now.n t1.now.words) (take t1.now.n t2.now.words) }
+    ensures pair { IfOk result (λ pair. FoundPair t1.now.d.p t1.now.n (take t1.now.n t1.now.words) (take t1.now.n t2.now.words) 0 pair.forward pair.backward) }
 {
+    let p = t1.d.p;
+    let n = t1.n;
     if (p - 1) % (n as u64) == 0 {
-        return from_eigenvectors(p, n, t1, t2);
+        return from_eigenvectors(t1, t2);
     }
     let k = exponent(p, n as u64).ok_or(Refusal::Method)?;
-    from_rounds(p, n, k, t1, t2)
+    from_rounds(k, t1, t2)
 }

@@ -8,9 +8,10 @@ ghost use Rattle.finder.specs.Finder.{find_s, find_r, refuse_find, find_number, 
 
 use crate::construct::{Pair, construct};
 use array::Word;
-use array::copy::{load, store};
+use array::copy::store;
 use refusal::Refusal;
 use refusal::sent::sent;
+use residue::modulus::Modulus;
 
 // The pair, or the first of 5 to 7 that applies, for lists to which none of 1 to 4 applies.
 fn answer(p: u32, n: u32, t1: &[Word], t2: &[Word]) -> Result<Pair, Refusal>
@@ -18,7 +19,9 @@ fn answer(p: u32, n: u32, t1: &[Word], t2: &[Word]) -> Result<Pair, Refusal>
     ensures number { number_of result ≡ refuse_find p n t1.now t2.now }
     ensures pair { IfOk result (λ pair. FoundPair p n t1.now t2.now 0 pair.forward pair.backward) }
 {
-    construct(p as u64, n as usize, &load(t1), &load(t2))
+    let t1 = Modulus::load(p, n, t1);
+    let t2 = Modulus::load(p, n, t2);
+    construct(&t1, &t2)
 }
 
 // Writes the pair, if there is one, for lists to which none of the refusals 1 to 4 applies.

@@ -1,7 +1,7 @@
 -- The public call: what the refusals leave, the copies between lists and arrays, and what the two lent lists hold at the end.
 use mathlib.Core.Path.{◌≡◌, refl, sym, ap, subst, subst₂, ◌∙◌}
 use mathlib.Core.List.{List, [], ◌∷◌}
-use Prim.Native.Nat.{ℕ, ◌≤◌}
+use Prim.Native.Nat.{ℕ, ◌^◌, ◌≤◌}
 use native.Mathlib.Omega.{arith}
 use lib.ListN.{length, take}
 use Rattle.quotient.proofs.Decision.{test_irreducible}
@@ -9,7 +9,7 @@ use Rattle.refusal.specs.Refusal.{refuse_sent, written}
 use Rattle.array.specs.Words.{Words, word_bound}
 use Rattle.refusal.proofs.Order.{Sent, sent_given, given_sent, sent_stays}
 use Rattle.refusal.proofs.Models.{sent_models}
-use Rattle.array.proofs.Words.{words_length, words_up}
+use Rattle.array.proofs.Words.{words_up}
 use Rattle.array.specs.Array.{padded, Holds}
 use Rattle.refusal.specs.Number.{number}
 use Rattle.refusal.specs.declared.number.Refusal.{Refusal}
@@ -25,20 +25,11 @@ use Rattle.finder.proofs.Values.{PairLaws, pair_laws}
 -- the arrays that hold the moduli
 
 module _ (p n : ℕ) (t1 t2 : List ℕ) (m : Models p n t1 t2) where
-  pub first_short : length t1 ≤ 16
-  first_short = omega (arith, words_length m.modulus1, m.degree.1)
-
-  pub second_short : length t2 ≤ 16
-  second_short = omega (arith, words_length m.modulus2, m.degree.1)
+  pub in_range : (2 ≤ p) × (p ≤ 2 ^ 20)
+  in_range = (m.prime.0, omega (arith, m.small))
 
   pub out_short : (out : List ℕ) → length out ≡ n → length out ≤ 16
   out_short out size = omega (arith, m.degree.1)
-
-  pub first_holds : (a : List ℕ) → a ≡ padded t1 → Holds p n a
-  first_holds a e = holds_is e m.modulus1
-
-  pub second_holds : (a : List ℕ) → a ≡ padded t2 → Holds p n a
-  second_holds a e = holds_is e m.modulus2
 
   -- what is said of the arrays is said of the lists
   pub of_lists : (P : List ℕ → List ℕ → Type 0) (a b : List ℕ) → a ≡ padded t1 → b ≡ padded t2 → P (take n a) (take n b) → P t1 t2
