@@ -1,3 +1,2 @@
--- The laws on which the proofs of the conjugates' functions rest.
+-- The law on which the proofs of the conjugates' functions rests.
 mod SortLoop
-mod Loaded

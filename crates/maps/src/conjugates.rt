@@ -5,7 +5,6 @@ ghost use Rattle.algebra.specs.Prime.{Prime};
 ghost use Rattle.array.specs.Array.{Holds};
 ghost use Rattle.array.specs.Words.{Words};
 ghost use Rattle.matrix.specs.Matrix.{Frobenius};
-ghost use Rattle.modular.specs.Barrett.{Reduces};
 ghost use Rattle.quotient.specs.Residue.{conjugate};
 ghost use Rattle.sorting.specs.Sorting.{sorted};
 
@@ -13,27 +12,21 @@ use array::Word;
 use array::copy::load;
 use matrix::frobenius::frobenius;
 use matrix::product::products;
-use modular::barrett::Barrett;
+use residue::modulus::Modulus;
 use sorting::insert::insert;
 
 // The n conjugates of S in ascending order.
-fn sorted_conjugates(
-    d: Barrett,
-    n: usize,
-    t: &[u64; 16],
-    m: &[u64; 256],
-    s: &[u64; 16],
-    out: &mut [Word],
-)
-    requires prime { Prime d.p }
-    requires reduces { Reduces d × (n ≤ 16) × (length out.old ≡ n * n) }
-    requires holds { Holds d.p n t.now × Frobenius d.p n (take n t.now) m.now × Holds d.p n s.now }
-    ensures { out.new ≡ flatten (sorted (conjugate d.p (take n t.now) (take n s.now)) n) }
+fn sorted_conjugates(t: &Modulus, m: &[u64; 256], s: &[u64; 16], out: &mut [Word])
+    requires prime { Prime t.now.d.p }
+    requires room { length out.old ≡ t.now.n * t.now.n }
+    requires holds { Frobenius t.now.d.p t.now.n (take t.now.n t.now.words) m.now × Holds t.now.d.p t.now.n s.now }
+    ensures { out.new ≡ flatten (sorted (conjugate t.now.d.p (take t.now.n t.now.words) (take t.now.n s.now)) t.now.n) }
 {
+    let n = t.n;
     let mut u = *s;
     for k in 0..n {
         insert(n, k, &u, out);
-        u = products(d, n, n, m, &u);
+        u = products(t.d, n, n, m, &u);
     }
 }
 
@@ -44,9 +37,8 @@ pub fn write_conjugates(p: u32, n: u32, t: &[Word], s: &[Word], out: &mut [Word]
     requires words { Words p n t.now × Words p n s.now }
     ensures { out.new ≡ flatten (sorted (conjugate p t.now s.now) n) }
 {
-    let modulus = load(t);
+    let modulus = Modulus::load(p, n, t);
     let mut m = [0; 256];
-    frobenius(p as u64, n as usize, &modulus, &mut m);
-    let d = Barrett::new(p as u64);
-    sorted_conjugates(d, n as usize, &modulus, &m, &load(s), out);
+    frobenius(&modulus, &mut m);
+    sorted_conjugates(&modulus, &m, &load(s), out);
 }
