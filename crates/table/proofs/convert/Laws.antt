@@ -135,6 +135,3 @@ module _ (p n : ℕ) (t s a b m : List ℕ) (big : 2 ≤ p) (wt : Words p n t) (
         d ∙ ap (λ k. each_group n (matrix_product k n m) (length table / n) table) same
         ∙ groups_same (matrix_product p n m) (substitute p t s) (λ u w. product_substitutes big wt ws powers w) (length table / n) table
         (table_groups (table_given p n table out₀ g))
-
-pub same_number : (p q n : ℕ) (table out : List ℕ) → q ≡ p → table_number p n table out ≡ 0 → table_number q n table out ≡ 0
-same_number p q n table out same h = ap (λ k. table_number k n table out) same ∙ h

@@ -9,8 +9,8 @@ front-requires c = search front_fits
 pub front-requires-2 : goal.front-requires-2
 front-requires-2 c = search front_fits
 
-pub convert-requires-clause-le_p : goal.convert-requires-clause-le_p
-convert-requires-clause-le_p c = search valid_size
+pub convert-requires-clause-sizes : goal.convert-requires-clause-sizes
+convert-requires-clause-sizes c = search valid_size
 
 pub convert-requires-clause-words : goal.convert-requires-clause-words
 convert-requires-clause-words c = (search modulus_words, search image_words)
