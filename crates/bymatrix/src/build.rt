@@ -11,6 +11,7 @@ use array::copy::load;
 use matrix::powers::powers;
 use pair::checker::check_with_output;
 use refusal::Refusal;
+use residue::modulus::Modulus;
 
 // The matrix of u ↦ u(S) modulo T, row after row.
 fn write_matrix(p: u32, n: u32, t: &[Word], s: &[Word], out: &mut [Word])
@@ -19,7 +20,7 @@ fn write_matrix(p: u32, n: u32, t: &[Word], s: &[Word], out: &mut [Word])
     ensures { out.new ≡ matrix_of p n t.now s.now }
 {
     let mut m = [0; 256];
-    powers(p as u64, n as usize, &load(t), &load(s), &mut m);
+    powers(&Modulus::load(p, n, t), &load(s), &mut m);
     store_rows(n as usize, &m, out);
 }
 

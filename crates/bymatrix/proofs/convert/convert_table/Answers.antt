@@ -9,8 +9,8 @@ load_rows-requires c = (search ready_low, search ready_short, search ready_lengt
 pub new-requires : goal.new-requires
 new-requires c = search ready_prime
 
-pub convert_groups-requires-clause-reduces : goal.convert_groups-requires-clause-reduces
-convert_groups-requires-clause-reduces c = (search rules, search ready_low, search ready_short)
+pub convert_groups-requires-clause-degree : goal.convert_groups-requires-clause-degree
+convert_groups-requires-clause-degree c = (search ready_low, search ready_short)
 
 pub convert_groups-requires-clause-rows : goal.convert_groups-requires-clause-rows
 convert_groups-requires-clause-rows c = search ready_rows
