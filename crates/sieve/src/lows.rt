@@ -1,11 +1,9 @@
 // The lower words of all multiples of D of one degree, as numbers in base p, by the higher words: one word after the other, from the highest down.
 ghost use Rattle.std.specs.Prelude.{◌≡◌, ◌+◌, ◌*◌, ◌^◌, ◌≤◌, ◌<◌, length, take};
-ghost use Rattle.array.specs.Array.{Holds};
-ghost use Rattle.modular.specs.Barrett.{Reduces};
 ghost use Rattle.sieve.specs.Clauses.{WordsBelow, Collected, Lows};
 
 use crate::plane::{add, narrow, plane};
-use modular::barrett::Barrett;
+use residue::modulus::Modulus;
 
 // The number with the digits of a, and b for one more, the lowest.
 fn append(p: u16, a: u16, b: u16) -> u16
@@ -35,23 +33,15 @@ fn clear(count: usize, codes: &mut [u16; 32768])
 }
 
 // The lower words of the multiples of D of degree n + k: the number for the higher words h, an integer below p^k. The array xs is lent for the words.
-pub fn lows(
-    d: Barrett,
-    n: usize,
-    k: usize,
-    count: usize,
-    t: &[u64; 16],
-    xs: &mut [u16; 32768],
-    codes: &mut [u16; 32768],
-)
-    requires reduces { Reduces d × (1 ≤ n) × (n ≤ k) × (n + k ≤ 16) × (d.p ^ (n + k) ≤ 65536) × (count ≡ d.p ^ k) }
-    requires holds { Holds d.p n t.now × (length xs.old ≡ 32768) × (length codes.old ≡ 32768) }
+pub fn lows(t: &Modulus, k: usize, count: usize, xs: &mut [u16; 32768], codes: &mut [u16; 32768])
+    requires sizes { (t.now.n ≤ k) × (t.now.n + k ≤ 16) × (t.now.d.p ^ (t.now.n + k) ≤ 65536) × (count ≡ t.now.d.p ^ k) }
+    requires rooms { (length xs.old ≡ 32768) × (length codes.old ≡ 32768) }
     ensures room_after { length xs.new ≡ 32768 }
-    ensures lows { Lows d.p (take n t.now) k 0 codes.new }
+    ensures lows { Lows t.now.d.p (take t.now.n t.now.words) k 0 codes.new }
 {
     clear(count, codes);
-    for j in (0..n).rev() {
-        let s = plane(d, n, k, t, j, xs);
-        collect(narrow(d.p), count, s, xs, codes);
+    for j in (0..t.n).rev() {
+        let s = plane(t, k, j, xs);
+        collect(narrow(t.d.p), count, s, xs, codes);
     }
 }

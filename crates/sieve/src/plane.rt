@@ -3,10 +3,9 @@
 ghost use Rattle.std.specs.Prelude.{◌≡◌, ◌+◌, ◌*◌, ◌%◌, ◌^◌, ◌≤◌, ◌<◌, length, get_or, take};
 ghost use Rattle.array.specs.Array.{Holds};
 ghost use Rattle.matrix.specs.Matrix.{multiple};
-ghost use Rattle.modular.specs.Barrett.{Reduces};
 ghost use Rattle.sieve.specs.Clauses.{WordsBelow, Block, Extended, Plane};
 
-use modular::barrett::Barrett;
+use residue::modulus::Modulus;
 use residue::ring::times_x;
 
 // a + b modulo p.
@@ -66,19 +65,19 @@ fn word(p: u64, n: usize, j: usize, w: &[u64; 16]) -> u16
 }
 
 // Word j of H·D modulo D for all H of k words. Handed back is word j of X^k·D.
-pub fn plane(d: Barrett, n: usize, k: usize, t: &[u64; 16], j: usize, xs: &mut [u16; 32768]) -> u16
-    requires reduces { Reduces d × (d.p ≤ 256) × (1 ≤ n) × (n ≤ 16) × (j < n) × (d.p ^ k ≤ 32768) }
-    requires holds { Holds d.p n t.now × (length xs.old ≡ 32768) }
-    ensures plane { Plane d.p (take n t.now) k j xs.new }
-    ensures value { result ≡ get_or (multiple d.p (take n t.now) (take n t.now) k) j 0 }
+pub fn plane(t: &Modulus, k: usize, j: usize, xs: &mut [u16; 32768]) -> u16
+    requires sizes { (t.now.d.p ≤ 256) × (j < t.now.n) × (t.now.d.p ^ k ≤ 32768) }
+    requires room { length xs.old ≡ 32768 }
+    ensures plane { Plane t.now.d.p (take t.now.n t.now.words) k j xs.new }
+    ensures value { result ≡ get_or (multiple t.now.d.p (take t.now.n t.now.words) (take t.now.n t.now.words) k) j 0 }
 {
-    let p = narrow(d.p);
-    let mut w = *t;
+    let p = narrow(t.d.p);
+    let mut w = t.words;
     let mut size = 1;
     xs[0] = 0;
     for _ in 0..k {
-        size = extend(p, size, word(d.p, n, j, &w), xs);
-        times_x(d, n, t, &mut w);
+        size = extend(p, size, word(t.d.p, t.n, j, &w), xs);
+        times_x(t, &mut w);
     }
-    word(d.p, n, j, &w)
+    word(t.d.p, t.n, j, &w)
 }

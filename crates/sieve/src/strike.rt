@@ -9,6 +9,7 @@ use crate::lows::lows;
 use array::Word;
 use array::copy::load;
 use modular::barrett::Barrett;
+use residue::modulus::Modulus;
 
 // Marks word base + h·q + codes[h], for each h below count.
 fn strike(base: usize, q: usize, count: usize, codes: &[u16; 32768], marks: &mut [u8; 131072])
@@ -56,10 +57,10 @@ pub fn strike_multiples(
     ensures rooms_after { (length xs.new ≡ 32768) × (length codes.new ≡ 32768) }
     ensures struck_by { StruckBy p (digits p n c) m marks.old marks.new }
 {
-    let t = lower_words(p, n, c);
+    let t = Modulus::new(Barrett::new(p as u64), n, lower_words(p, n, c));
     let k = m - n;
     let count = power(p as usize, k);
-    lows(Barrett::new(p as u64), n, k, count, &t, xs, codes);
+    lows(&t, k, count, xs, codes);
     strike(
         power(p as usize, m),
         power(p as usize, n),

@@ -8,8 +8,8 @@ clear-requires c = (search count_few, search rules)
 pub loop-j-init : goal.loop-j-init
 loop-j-init c = (search rules, search lows_begun)
 
-pub plane-s-requires-clause-reduces : goal.plane-s-requires-clause-reduces
-plane-s-requires-clause-reduces c = (search rules, search prime_few, search rules, search rules, search rules, search lows_few)
+pub plane-s-requires-clause-sizes : goal.plane-s-requires-clause-sizes
+plane-s-requires-clause-sizes c = (search prime_few, search rules, search lows_few)
 
 pub narrow-requires : goal.narrow-requires
 narrow-requires c = search prime_short

@@ -5,4 +5,4 @@ use Rattle.sieve.specs.Clauses.{Lows}
 use Rattle.sieve.proofs.lows.lows.Given as goal
 
 abbrev pub invariant-loop-j : goal.invariant-loop-j
-invariant-loop-j l = (length l.xs ≡ 32768) × Lows l.d.p (take l.n l.t) l.k l.j l.codes
+invariant-loop-j l = (length l.xs ≡ 32768) × Lows l.t.d.p (take l.t.n l.t.words) l.k l.j l.codes

@@ -9,5 +9,5 @@ use Rattle.sieve.proofs.plane.plane.Given as goal
 
 abbrev pub invariant-loop : goal.invariant-loop
 invariant-loop l =
-    (l.p ≡ l.d.p) × (l.size ≡ l.d.p ^ l.counter) × (l.w ≡ padded (multiple l.d.p (take l.n l.t) (take l.n l.t) l.counter)) × Holds l.d.p l.n l.w
-    × Plane l.d.p (take l.n l.t) l.counter l.j l.xs
+    (l.p ≡ l.t.d.p) × (l.size ≡ l.t.d.p ^ l.counter) × (l.w ≡ padded (multiple l.t.d.p (take l.t.n l.t.words) (take l.t.n l.t.words) l.counter)) × Holds l.t.d.p l.t.n l.w
+    × Plane l.t.d.p (take l.t.n l.t.words) l.counter l.j l.xs

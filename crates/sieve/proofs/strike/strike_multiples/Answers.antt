@@ -9,8 +9,8 @@ power-count-requires c = (search rules, search count_fits)
 pub new-requires : goal.new-requires
 new-requires c = (search rules, search modulus_small)
 
-pub lows-requires-clause-holds : goal.lows-requires-clause-holds
-lows-requires-clause-holds c = (search divisor_holds, search rules, search rules)
+pub new-t-requires-clause-below : goal.new-t-requires-clause-below
+new-t-requires-clause-below c = search divisor_holds
 
 pub power-requires-2 : goal.power-requires-2
 power-requires-2 c = (search rules, search size_fits)
@@ -19,7 +19,13 @@ pub strike-requires-clause-places : goal.strike-requires-clause-places
 strike-requires-clause-places c = (search base_bound, search blocks_inside, search count_bound, search rules)
 
 pub strike-requires-clause-words_below : goal.strike-requires-clause-words_below
-strike-requires-clause-words_below c = search codes_below
+strike-requires-clause-words_below c =
+    let s = c.requires.sizes in
+    codes_below _ _ _ s.0 s.1 s.2 s.4 _ _ _ c.power.ensures c.power-2.ensures c.power-count.ensures _ _ _ _ c.new.ensures c.lower_words.ensures
+    (rw (c.new-t.ensures.0, c.new-t.ensures.1, c.new-t.ensures.2) at c.lows.ensures.lows)
 
 pub returns-clause-struck_by : goal.returns-clause-struck_by
-returns-clause-struck_by c = search multiples_struck
+returns-clause-struck_by c =
+    let s = c.requires.sizes in
+    multiples_struck _ _ _ s.0 s.1 s.2 s.4 _ _ _ c.power.ensures c.power-2.ensures c.power-count.ensures _ _ _ _ c.new.ensures c.lower_words.ensures
+    (rw (c.new-t.ensures.0, c.new-t.ensures.1, c.new-t.ensures.2) at c.lows.ensures.lows) _ _ c.strike.ensures
