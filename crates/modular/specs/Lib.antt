@@ -2,4 +2,3 @@
 pub mod Prime
 pub mod Inverse
 pub mod Reciprocal
-pub mod Barrett
