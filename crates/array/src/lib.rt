@@ -1,4 +1,6 @@
 // Words in lists and in arrays: residues and matrices as flat arrays of 64-bit words, and the lists of words that calls are lent.
+// A residue stands in an array of 16 words and a matrix in one of 256, with the degree n beside: nothing is
+// allocated, and document 01 holds the matrix "as one flat array of 256 words".
 //   list   whether every word of a list is below p
 //   copy   a list of words into an array, and back
 #![tactic(auto)]

@@ -39,7 +39,7 @@ fn is_expression(t: &Modulus, m: &[u64; 256], polynomial: &[u64; 16]) -> bool
 // The polynomial P by traces, as it is where a1^n is the constant a; if that fails the test, or a is 0, by elimination.
 fn polynomial(a: u64, t: &Modulus, m: &[u64; 256]) -> [u64; 16]
     requires prime { Prime t.now.d.p }
-    requires sizes { a < t.now.d.p }
+    requires below { a < t.now.d.p }
     requires holds { Square t.now.d.p t.now.n m.now }
     ensures { Expression t.now.d.p t.now.n (take t.now.n t.now.words) m.now result }
 {
@@ -57,7 +57,7 @@ fn polynomial(a: u64, t: &Modulus, m: &[u64; 256]) -> [u64; 16]
 // where a1^n is none.
 pub fn image(a: u64, t: &Modulus, m1: &[u64; 256], m2: &[u64; 256]) -> [u64; 16]
     requires prime { Prime t.now.d.p }
-    requires sizes { a < t.now.d.p }
+    requires below { a < t.now.d.p }
     requires square { Square t.now.d.p t.now.n m1.now × Square t.now.d.p t.now.n m2.now }
     ensures { Image t.now.d.p t.now.n (take t.now.n t.now.words) m1.now m2.now result }
 {

@@ -33,7 +33,7 @@ fn is_eigenvector(d: Barrett, n: usize, z: u64, m: &[u64; 256], v: &[u64; 16]) -
 // matrix m of u ↦ u^p. The system is written into m.
 fn by_elimination(z: u64, t: &Modulus, m: &mut [u64; 256]) -> Option<[u64; 16]>
     requires prime { Prime t.now.d.p }
-    requires sizes { z < t.now.d.p }
+    requires below { z < t.now.d.p }
     requires frobenius { Frobenius t.now.d.p t.now.n (take t.now.n t.now.words) m.old }
     ensures kernel { MatchOption result (TrivialKernel t.now.d.p t.now.n (take t.now.n t.now.words) z) (λ v. Kernel t.now.d.p t.now.n (take t.now.n t.now.words) z v) }
     ensures matrix_size { length m.new ≡ 256 }
@@ -49,7 +49,7 @@ fn by_elimination(z: u64, t: &Modulus, m: &mut [u64; 256]) -> Option<[u64; 16]>
 // passes the test, else by elimination. For n < 4 elimination is as fast. The array m is worked on.
 pub fn kernel(z: u64, t: &Modulus, m: &mut [u64; 256]) -> Option<[u64; 16]>
     requires prime { Prime t.now.d.p }
-    requires sizes { z < t.now.d.p }
+    requires below { z < t.now.d.p }
     requires matrix_size { length m.old ≡ 256 }
     ensures kernel { MatchOption result (TrivialKernel t.now.d.p t.now.n (take t.now.n t.now.words) z) (λ v. Kernel t.now.d.p t.now.n (take t.now.n t.now.words) z v) }
     ensures matrix_size { length m.new ≡ 256 }

@@ -32,7 +32,7 @@ fn is_fixed(t: &Modulus, m: &[u64; 256]) -> bool
 // Whether X^(p^(n/q)) − X has an inverse modulo T, or q does not divide n.
 fn passes(t: &Modulus, m: &[u64; 256], q: usize) -> bool
     requires prime { Prime t.now.d.p }
-    requires sizes { 0 < q }
+    requires divisor { 0 < q }
     requires holds { Frobenius t.now.d.p t.now.n (take t.now.n t.now.words) m.now }
     ensures { IsTrue result ↔ Passes t.now.d.p t.now.n (take t.now.n t.now.words) q }
 {

@@ -22,7 +22,7 @@ pub fn place(n: usize, j: usize, u: &[u64; 16], m: &mut [u64; 256])
 
 // The powers S, …, S^(n−1), by n − 2 products, into a matrix whose column 0 is 1.
 fn few_powers(t: &Modulus, s: &[u64; 16], m: &mut [u64; 256])
-    requires sizes { 2 ≤ t.now.n }
+    requires degree { 2 ≤ t.now.n }
     requires holds { Holds t.now.d.p t.now.n s.now }
     requires first { Powers t.now.d.p 1 (take t.now.n t.now.words) (take t.now.n s.now) m.old }
     ensures powers { Powers t.now.d.p t.now.n (take t.now.n t.now.words) (take t.now.n s.now) m.new }
@@ -38,7 +38,7 @@ fn few_powers(t: &Modulus, s: &[u64; 16], m: &mut [u64; 256])
 
 // The same by the matrix of u ↦ u·S. All its 16 columns are taken, because a sum of a known number of products is faster.
 fn many_powers(t: &Modulus, s: &[u64; 16], m: &mut [u64; 256])
-    requires sizes { 2 ≤ t.now.n }
+    requires degree { 2 ≤ t.now.n }
     requires holds { Holds t.now.d.p t.now.n s.now }
     requires first { Powers t.now.d.p 1 (take t.now.n t.now.words) (take t.now.n s.now) m.old }
     ensures powers { Powers t.now.d.p t.now.n (take t.now.n t.now.words) (take t.now.n s.now) m.new }
@@ -57,7 +57,7 @@ fn many_powers(t: &Modulus, s: &[u64; 16], m: &mut [u64; 256])
 
 // The same by the way that is faster: the matrix of u ↦ u·S is worth its cost from degree 7 on.
 fn higher_powers(t: &Modulus, s: &[u64; 16], m: &mut [u64; 256])
-    requires sizes { 2 ≤ t.now.n }
+    requires degree { 2 ≤ t.now.n }
     requires holds { Holds t.now.d.p t.now.n s.now }
     requires first { Powers t.now.d.p 1 (take t.now.n t.now.words) (take t.now.n s.now) m.old }
     ensures powers { Powers t.now.d.p t.now.n (take t.now.n t.now.words) (take t.now.n s.now) m.new }

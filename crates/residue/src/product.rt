@@ -39,7 +39,7 @@ fn add_rows(
     e: &mut [u64; 32],
     o: &mut [u64; 32],
 )
-    requires sizes { i < t.now.n }
+    requires index { i < t.now.n }
     requires factors { (c < t.now.d.p) × (q ≤ 2 * t.now.d.p) × (b < t.now.d.p) × (r ≤ 2 * t.now.d.p) }
     requires holds { Holds t.now.d.p t.now.n v.now }
     requires half { Half t.now.d.p t.now.n 16 i e.old × Half t.now.d.p t.now.n 16 i o.old }
@@ -103,7 +103,7 @@ fn two_steps(
     e: &mut [u64; 32],
     o: &mut [u64; 32],
 ) -> u64
-    requires sizes { i + 2 ≤ t.now.n }
+    requires index { i + 2 ≤ t.now.n }
     requires holds { Holds t.now.d.p t.now.n u.now × Holds t.now.d.p t.now.n v.now }
     requires halves { Halves t.now.d.p t.now.n (t.now.n - (i + 2)) (i + 2) (product t.now.d.p (take t.now.n t.now.words) (drop (i + 2) (take t.now.n u.now)) (take t.now.n v.now)) e.old o.old }
     requires top_word { h ≡ get_or (joined t.now.n (i + 2) e.old o.old) (t.now.n - 1) 0 }
@@ -171,7 +171,7 @@ fn joined_word(p: u64, n: usize, j: usize, e: &[u64; 32], o: &[u64; 32]) -> u64
 
 // The joined words of e and o, each modulo p, into w, which is 0.
 fn reduce_joined(d: Barrett, n: usize, e: &[u64; 32], o: &[u64; 32], w: &mut [u64; 16])
-    requires sizes { n ≤ 16 }
+    requires degree { n ≤ 16 }
     requires halves { Halves d.p n n 0 (reduced d.p (take n (joined n 0 e.now o.now))) e.now o.now }
     requires zeros { w.old ≡ replicate 16 0 }
     ensures { w.new ≡ padded (reduced d.p (take n (joined n 0 e.now o.now))) }

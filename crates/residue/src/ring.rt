@@ -25,7 +25,7 @@ fn step(t: &Modulus, q: u64, w: &mut [u64; 16])
 
 // Takes each word of w modulo p.
 fn reduce(d: Barrett, n: usize, w: &mut [u64; 16])
-    requires sizes { n ≤ 16 }
+    requires degree { n ≤ 16 }
     requires delayed { Delayed d.p n 17 (reduced d.p (take n w.old)) w.old }
     ensures { w.new ≡ padded (reduced d.p (take n w.old)) }
 {

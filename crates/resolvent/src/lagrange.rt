@@ -63,7 +63,7 @@ fn sum_of_terms(d: Barrett, n: usize, y: u64, m: &[u64; 256]) -> [u64; 16]
 
 // The first n sums modulo p, and zeros after them.
 fn reduce(d: Barrett, n: usize, sums: &[u64; 16]) -> [u64; 16]
-    requires sizes { n ≤ 16 }
+    requires degree { n ≤ 16 }
     requires sums { Sums d.p 16 sums.now }
     ensures { Holds d.p n result }
 {

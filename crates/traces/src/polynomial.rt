@@ -61,7 +61,7 @@ fn coefficients(d: Barrett, n: usize, f: u64, g: u64, w: &[u64; 16]) -> [u64; 16
 // The polynomial P with P(α) = X, where column j of m holds α^j and α^n = a; zeros where n·a is 0 modulo p.
 fn guess(a: u64, t: &Modulus, m: &[u64; 256]) -> [u64; 16]
     requires prime { Prime t.now.d.p }
-    requires sizes { a < t.now.d.p }
+    requires below { a < t.now.d.p }
     requires holds { Square t.now.d.p t.now.n m.now }
     ensures { Holds t.now.d.p t.now.n result }
 {
