@@ -2,9 +2,7 @@
 ghost use Rattle.std.specs.Prelude.{◌≤◌, length};
 ghost use Rattle.text.specs.Text.{Begins};
 ghost use Rattle.answer.specs.Answer.{pair_text, refused_text, ring_text, valid_text};
-ghost use Rattle.refusal.specs.Number.{number};
 
-use refusal::Refusal;
 use text::bytes::{put, put_byte};
 use text::decimal::put_decimal;
 use text::hexadecimal::put_hexadecimal;
@@ -36,11 +34,10 @@ pub fn put_ring(text: &mut [u8]) -> usize
 }
 
 // `REFUSED `, the number and a newline.
-pub fn put_refusal(text: &mut [u8], refusal: Refusal) -> usize
+pub fn put_refusal(text: &mut [u8], number: u32) -> usize
     requires { 338 ≤ length text.old }
-    ensures { Begins (refused_text (number refusal)) text.new result }
+    ensures { Begins (refused_text number) text.new result }
 {
-    let number = u32::from(refusal);
     let start = put(text, 0, b"REFUSED ");
     let end = put_decimal(text, start, number as u64);
     put_byte(text, end, b'\n')

@@ -1,6 +1,7 @@
 // The public calls on residues: lists of words are lent, nothing is required, and each refusal has its number. On a refusal the list lent
 // for the output is as found.
-// Three lists that are read have one lifetime, since they stand in one array.
+// The three lists that `product` and `substitute` read have one lifetime: with three of their own the lists of the
+// call, one of them lent for writing, have no proof in one array.
 // `product` and `substitute` differ in one name: a helper that took the operation as a closure
 // would state that closure's contract beside its own, and neither call would be shorter.
 ghost use Rattle.std.specs.Prelude.{◌≡◌};

@@ -113,7 +113,7 @@ pub fn next(m: Barrett, k: u64, a: u64, c: &mut [u64; 128]) -> u64
     requires below { a < m.p }
     requires table { Table m.p k c.old }
     ensures value { (result ≡ a ^ k % m.p) × (result < m.p) }
-    ensures table_2 { Table m.p k c.new }
+    ensures table_after { Table m.p k c.new }
 {
     extend(m, k, a, c);
     let r = value(m, k, a, c);

@@ -58,7 +58,7 @@ pub fn find(
     ensures s_after { s.new ≡ find_output_s p n t1.now t2.now s.old r.old }
     ensures r_after { r.new ≡ find_output_r p n t1.now t2.now s.old r.old }
 {
-    // The arrays have names: with them written in the call, the borrow checker covers no proof.
+    // The arrays have names: written in the call, beside lists that are lent for writing, they have no proof.
     let read = [t1, t2];
     let lists = [t1, t2, s, r];
     sent(p, n, &lists, &read)?;

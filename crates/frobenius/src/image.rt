@@ -21,7 +21,7 @@ fn by_elimination(t: &Modulus, m: &[u64; 256]) -> [u64; 16]
 {
     let mut system = *m;
     let x = residue_of_x(t);
-    match solve(t.d.p, t.n, &mut system, x) {
+    match solve(t.d, t.n, &mut system, x) {
         Solution::Unique(vector) | Solution::NullVector(vector) => vector,
     }
 }

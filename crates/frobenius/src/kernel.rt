@@ -39,7 +39,7 @@ fn by_elimination(z: u64, t: &Modulus, m: &mut [u64; 256]) -> Option<[u64; 16]>
     ensures matrix_size { length m.new ≡ 256 }
 {
     minus(t.d.p, t.n, z, m);
-    match solve(t.d.p, t.n, m, [0; 16]) {
+    match solve(t.d, t.n, m, [0; 16]) {
         Solution::Unique(_) => None,
         Solution::NullVector(v) => Some(v),
     }

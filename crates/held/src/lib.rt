@@ -24,7 +24,7 @@ pub enum State {
 
 // The first n words of each array count, and of a state that does not have an item nothing of it
 // counts. The state stands beside the arrays, and no enum has the lists in it, since a value made
-// otherwise is given back as it came (`RefusalsKeep` of pairing), whatever its fields hold.
+// otherwise is given back as it came, whatever its fields hold (`RefusalChangesNothing` of runs).
 #[derive(Clone, Copy)]
 pub struct Held {
     pub state: State,

@@ -21,5 +21,5 @@ pub fn has_inverse(t: &Modulus, w: &[u64; 16]) -> bool
     multiples(t, w, &mut m);
     let mut one = [0; 16];
     one[0] = 1;
-    matches!(solve(t.d.p, t.n, &mut m, one), Solution::Unique(_))
+    matches!(solve(t.d, t.n, &mut m, one), Solution::Unique(_))
 }

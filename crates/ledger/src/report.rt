@@ -79,7 +79,7 @@ fn lines_length(records: &[Record]) -> usize
     requires { length records.now ≤ most_records }
     ensures { (result ≡ length (lines records.now)) × (result ≤ most_records * 23) }
 {
-    // A `for`: of `.map(..).sum()` the check does not prove that it is at most 23 for each record.
+    // A `for`: that `.map(..).sum()` is at most 23 for each record, so that it fits, has no proof.
     let mut sum = 0;
     for entry in records {
         sum += line_length(*entry);

@@ -34,20 +34,19 @@ fn kernel_vector(p: u64, n: usize, c: usize, m: &[u64; 256]) -> [u64; 16]
 }
 
 // Solves M·v = b: walks the columns, and stops at the first without a pivot. Of the matrix at the end only the length is promised.
-pub fn solve(p: u64, n: usize, m: &mut [u64; 256], b: [u64; 16]) -> Solution
-    requires prime { Prime p }
-    requires bounds { (p ≤ 1048576) × (n ≤ 16) }
-    requires square { Square p n m.old }
-    requires holds { Holds p n b }
-    ensures solution { SolutionOf p n m.old b result }
+pub fn solve(d: Barrett, n: usize, m: &mut [u64; 256], b: [u64; 16]) -> Solution
+    requires prime { Prime d.p }
+    requires degree { n ≤ 16 }
+    requires square { Square d.p n m.old }
+    requires holds { Holds d.p n b }
+    ensures solution { SolutionOf d.p n m.old b result }
     ensures size { length m.new ≡ 256 }
 {
-    let d = Barrett::new(p);
     let mut v = b;
     for c in 0..n {
         match find_pivot(n, c, m) {
             Some(r) => eliminate(d, n, c, r, m, &mut v),
-            None => return Solution::NullVector(kernel_vector(p, n, c, m)),
+            None => return Solution::NullVector(kernel_vector(d.p, n, c, m)),
         }
     }
     Solution::Unique(v)

@@ -29,7 +29,7 @@ fn answer_job(p: u32, n: u32, words: &mut [Word], text: &mut [u8]) -> usize
 {
     match find_pair(p, n, words) {
         Ok(()) => print_card(p, n, &words[..4 * n as usize], text),
-        Err(refusal) => put_refusal(text, refusal),
+        Err(refusal) => put_refusal(text, refusal.into()),
     }
 }
 
@@ -52,7 +52,7 @@ fn print_pair(
             if congruences_hold(p, n, t1, t2, s, r) {
                 put_ring(text)
             } else {
-                put_refusal(text, refusal)
+                put_refusal(text, refusal.into())
             }
         }
     }
@@ -89,6 +89,6 @@ pub fn answer(card: &[u8], text: &mut [u8; 338]) -> usize
             Kind::Job => answer_job(said.p, said.n, &mut words, text),
             Kind::Pair => answer_pair(said.p, said.n, &words, text),
         },
-        Err(refusal) => put_refusal(text, refusal),
+        Err(refusal) => put_refusal(text, refusal.into()),
     }
 }

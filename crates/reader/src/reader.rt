@@ -75,6 +75,7 @@ fn is_misplaced(wide: bool, p: u32) -> bool
     wide && p < 65536
 }
 
+// What the header says: p, n and kind.
 fn header(card: &[u8], wide: bool) -> Fields
     requires { (wide ≡ is_wide card.now) × (bad_header card.now ≡ false) }
     ensures prime { (result.p ≡ card_prime card.now) × (result.p ≤ largest_prime) }
@@ -113,7 +114,7 @@ fn words_below(card: &[u8], p: u32, start: usize, w: usize, count: usize) -> boo
     requires { (start ≤ 48) × (w ≤ 20) × (count ≤ 64) × (start + count * w ≤ 8 * length card.now) }
     ensures { result ≡ all_below p (fields_at (unpacked card.now) start w count) }
 {
-    // A `for`: of `(0..count).all(..)` the check does not prove what it answers.
+    // A `for`: what `(0..count).all(..)` answers has no proof here.
     for k in 0..count {
         if word(card, start, w, k) >= p {
             return false;

@@ -8,7 +8,7 @@ use array::Word;
 use array::copy::load;
 use modular::barrett::Barrett;
 
-// The words of T below its leading 1, and zeros after them.
+// p with its reciprocal, the degree, and the words of T below its leading 1, with zeros after them.
 #[derive(Clone, Copy)]
 pub struct Modulus {
     pub d: Barrett,

@@ -46,7 +46,7 @@ impl Session {
         self.record_with(convert(Direction::Forward, x.work, x.count, table, out))
     }
 
-    // The same under u ↦ u(R) modulo T1: two calls and no direction, as the product names them.
+    // The same under u ↦ u(R) modulo T1: two calls and no direction, as document 01 names them.
     pub fn back(self, table: &[Word], out: &mut [Word]) -> Result<Session, Refused>
         ensures value { step_of result ≡ convert Back self table.now out.old }
         ensures out_after { out.new ≡ convert_output Back self table.now out.old }

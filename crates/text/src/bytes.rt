@@ -1,4 +1,4 @@
-// Bytes as they are.
+// Bytes as they are, and words of a list likewise.
 ghost use Rattle.std.specs.Prelude.{◌∷◌, [], ◌+◌, ◌≤◌, ◌<◌, length};
 ghost use Rattle.text.specs.Text.{Appended};
 

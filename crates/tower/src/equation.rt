@@ -47,7 +47,7 @@ pub fn artin_schreier(t: &Modulus, c: &[u64; 256], a: &[u64; 16]) -> Option<[u64
     let n = t.n;
     let mut system = *c;
     place(n, 0, a, &mut system);
-    match solve(t.d.p, n, &mut system, [0; 16]) {
+    match solve(t.d, n, &mut system, [0; 16]) {
         Solution::NullVector(u) if u[0] != 0 => Some(divided(t.d.p, n, &u)),
         _ => None,
     }

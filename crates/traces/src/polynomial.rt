@@ -59,10 +59,11 @@ fn coefficients(d: Barrett, n: usize, f: u64, g: u64, w: &[u64; 16]) -> [u64; 16
 }
 
 // The polynomial P with P(α) = X, where column j of m holds α^j and α^n = a; zeros where n·a is 0 modulo p.
-fn guess(a: u64, t: &Modulus, m: &[u64; 256]) -> [u64; 16]
+// The caller tests the result.
+pub fn expression(a: u64, t: &Modulus, m: &[u64; 256]) -> [u64; 16]
     requires prime { Prime t.now.d.p }
     requires below { a < t.now.d.p }
-    requires holds { Square t.now.d.p t.now.n m.now }
+    requires square { Square t.now.d.p t.now.n m.now }
     ensures { Holds t.now.d.p t.now.n result }
 {
     let c = t.d.reduce(times(t.n as u64, a));
@@ -73,14 +74,4 @@ fn guess(a: u64, t: &Modulus, m: &[u64; 256]) -> [u64; 16]
     let g = t.d.reduce(times(a, f));
     let w = row_sums(t.d.p, t.n, &traces(t), m);
     coefficients(t.d, t.n, f, g, &w)
-}
-
-// The same by p. The caller tests the result.
-pub fn expression(a: u64, t: &Modulus, m: &[u64; 256]) -> [u64; 16]
-    requires prime { Prime t.now.d.p }
-    requires p_bound { a < t.now.d.p }
-    requires holds { Square t.now.d.p t.now.n m.now }
-    ensures { Holds t.now.d.p t.now.n result }
-{
-    guess(a, t, m)
 }

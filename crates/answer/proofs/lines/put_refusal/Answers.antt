@@ -11,5 +11,4 @@ put_byte-requires c = refusal_room _ (omega arith) c.put-start.ensures c.put_dec
 
 pub returns : goal.returns
 returns c =
-    rw (← c.from-number.ensures)
-    (refusal_line _ (omega arith) c.put-start.ensures c.put_decimal-end.ensures c.put_byte.ensures (omega arith))
+    refusal_line _ (omega arith) c.put-start.ensures c.put_decimal-end.ensures c.put_byte.ensures (omega arith)

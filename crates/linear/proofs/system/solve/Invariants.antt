@@ -3,4 +3,4 @@ use Rattle.linear.specs.Elimination.{Advanced}
 use Rattle.linear.proofs.system.solve.Given as goal
 
 abbrev pub invariant-loop-c : goal.invariant-loop-c
-invariant-loop-c l = Advanced l.p l.n l.c l.initial.m l.initial.v l.m l.v
+invariant-loop-c l = Advanced l.d.p l.n l.c l.initial.m l.initial.v l.m l.v

@@ -34,4 +34,4 @@ returns-in-Pair-clause-text c =
     answer_pair _ _ taken.number refl _ _ _ _ taken.said.0 taken.said.1 taken.said.2 taken.words (pair_number _ c.in-Pair.is) _ _ c.answer_pair.ensures
 
 pub returns-in-Err-clause-text : goal.returns-in-Err-clause-text
-returns-in-Err-clause-text c = answer_refusal _ _ c.in-Err.ensures.number _ _ (refused _) c.put_refusal.ensures
+returns-in-Err-clause-text c = answer_refusal _ _ c.in-Err.ensures.number _ _ (refused _) (rw c.into.ensures at c.put_refusal.ensures)

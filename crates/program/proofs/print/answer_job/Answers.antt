@@ -11,4 +11,4 @@ pub returns-in-Ok : goal.returns-in-Ok
 returns-in-Ok c = job_line _ _ _ _ _ c.in-Ok.ensures refl _ _ c.print_card.ensures
 
 pub returns-in-Err : goal.returns-in-Err
-returns-in-Err c = job_refusal _ _ _ _ _ c.in-Err.ensures _ _ (refused _) c.put_refusal.ensures
+returns-in-Err c = job_refusal _ _ _ _ _ c.in-Err.ensures _ _ (refused _) (rw c.into.ensures at c.put_refusal.ensures)

@@ -13,4 +13,4 @@ returns-then-congruences_hold c =
 
 pub returns-else-congruences_hold : goal.returns-else-congruences_hold
 returns-else-congruences_hold c =
-    check_refusal _ _ _ _ _ _ _ c.in-Err.ensures c.requires.1 (refused _) _ c.congruences_hold.ensures _ _ c.if-congruences_hold.false c.put_refusal.ensures
+    check_refusal _ _ _ _ _ _ _ c.in-Err.ensures c.requires.1 (refused _) _ c.congruences_hold.ensures _ _ c.if-congruences_hold.false (rw c.into.ensures at c.put_refusal.ensures)
