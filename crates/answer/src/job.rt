@@ -1,5 +1,5 @@
 // The pair card of a job: the finder's pair behind T1 and T2, and the card that the writer makes of the four lists.
-ghost use Rattle.std.specs.Prelude.{◌++◌, ◌≡◌, ◌+◌, ◌*◌, ◌≤◌, length, replicate};
+ghost use Rattle.std.specs.Prelude.{◌++◌, ◌≡◌, ◌+◌, ◌≤◌, length, replicate};
 ghost use Rattle.card.specs.Card.{card, card_length, write_number};
 ghost use Rattle.finder.specs.Finder.{find_number, find_output_s, find_output_r};
 ghost use Rattle.refusal.specs.Models.{Models};

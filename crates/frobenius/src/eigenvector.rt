@@ -1,6 +1,6 @@
 // An eigenvector of the p-th power, v^p = ζ·v modulo T, from the kernel of u ↦ u^p − ζ·u or, for n = 2, by completing the square. It also decides whether T has a
 // monic divisor of degree 1 to n − 1.
-ghost use Rattle.std.specs.Prelude.{true, ◌≡◌, ◌^◌, ◌≤◌, ◌<◌, length, take, MatchOption, IfSome};
+ghost use Rattle.std.specs.Prelude.{true, ◌≡◌, ◌<◌, length, take, MatchOption, IfSome};
 ghost use Rattle.algebra.specs.Prime.{Prime};
 ghost use Rattle.array.specs.Array.{Holds};
 ghost use Rattle.quotient.specs.DivisorTest.{has_divisor};

@@ -1,5 +1,5 @@
 // A polynomial in one residue taken to the same polynomial in another, by the matrices of their powers.
-ghost use Rattle.std.specs.Prelude.{true, ◌≡◌, ◌^◌, ◌≤◌, ◌<◌, take};
+ghost use Rattle.std.specs.Prelude.{true, ◌≡◌, ◌<◌, take};
 ghost use Rattle.algebra.specs.Prime.{Prime};
 ghost use Rattle.array.specs.Array.{Square, Holds};
 ghost use Rattle.frobenius.specs.Image.{Expression, Image};

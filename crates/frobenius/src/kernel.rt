@@ -1,5 +1,5 @@
 // The kernel of the linear map u ↦ u^p − z·u on residues modulo T: Lagrange's resolvent, if it passes the test, or else by elimination.
-ghost use Rattle.std.specs.Prelude.{true, ◌≡◌, ◌^◌, ◌≤◌, ◌<◌, length, take, MatchOption};
+ghost use Rattle.std.specs.Prelude.{true, ◌≡◌, ◌≤◌, ◌<◌, length, take, MatchOption};
 ghost use Rattle.algebra.specs.Prime.{Prime};
 ghost use Rattle.array.specs.Array.{Square, Holds};
 ghost use Rattle.matrix.specs.Matrix.{Frobenius};

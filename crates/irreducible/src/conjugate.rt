@@ -1,12 +1,11 @@
 // The conjugates X^(p^k) of X modulo T, by the matrix of u ↦ u^p; one matrix serves all.
-ghost use Rattle.std.specs.Prelude.{◌≡◌, ◌≤◌, take};
+ghost use Rattle.std.specs.Prelude.{◌≡◌, take};
 ghost use Rattle.algebra.specs.Prime.{Prime};
-ghost use Rattle.array.specs.Array.{padded, Holds};
+ghost use Rattle.array.specs.Array.{padded};
 ghost use Rattle.matrix.specs.Matrix.{Frobenius};
 ghost use Rattle.irreducible.specs.Rabin.{conjugate_of_x, difference as difference_of};
 
 use matrix::product::products;
-use modular::barrett::Barrett;
 use residue::difference::subtract;
 use residue::modulus::Modulus;
 use residue::ring::residue_of_x;

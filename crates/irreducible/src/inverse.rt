@@ -1,6 +1,6 @@
 // Whether a residue w has an inverse modulo T, by one elimination. The columns w, X·w, …, X^(n−1)·w are the matrix of v ↦ v·w: a regular system has a v with v·w = 1, and a
 // singular one a v other than 0 with v·w = 0, which no w with an inverse has.
-ghost use Rattle.std.specs.Prelude.{◌≤◌, take};
+ghost use Rattle.std.specs.Prelude.{take};
 ghost use Rattle.algebra.specs.Prime.{Prime};
 ghost use Rattle.algebra.specs.Search.{Decides};
 ghost use Rattle.array.specs.Array.{Holds};
@@ -8,7 +8,6 @@ ghost use Rattle.quotient.specs.Residue.{HasInverse};
 
 use linear::system::{Solution, solve};
 use matrix::multiples::multiples;
-use modular::barrett::Barrett;
 use residue::modulus::Modulus;
 
 // Whether w has an inverse modulo T.

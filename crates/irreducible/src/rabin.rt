@@ -1,9 +1,8 @@
 // Rabin's test.
 ghost use Rattle.std.specs.List.{All};
-ghost use Rattle.std.specs.Prelude.{not, ◌≡◌, ◌^◌, ◌≤◌, ◌<◌, ◌↔◌, IsTrue, take};
+ghost use Rattle.std.specs.Prelude.{not, ◌≡◌, ◌<◌, ◌↔◌, IsTrue, take};
 ghost use Rattle.algebra.specs.Lists.{equal};
 ghost use Rattle.algebra.specs.Prime.{Prime};
-ghost use Rattle.array.specs.Array.{Holds};
 ghost use Rattle.matrix.specs.Matrix.{Frobenius};
 ghost use Rattle.quotient.specs.DivisorTest.{has_divisor};
 ghost use Rattle.quotient.specs.Residue.{residue_of_x};
@@ -13,7 +12,6 @@ use crate::conjugate::{conjugate, difference};
 use crate::inverse::has_inverse;
 use comparison::equality::is_x;
 use matrix::frobenius::frobenius;
-use modular::barrett::Barrett;
 use residue::modulus::Modulus;
 
 // The primes up to 16, among which are all that divide a degree.

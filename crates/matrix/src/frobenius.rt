@@ -1,6 +1,5 @@
 // The matrix of u ↦ u^p for a prime p: its columns are the powers of X^p, since u^p = u(X^p).
-ghost use Rattle.std.specs.Prelude.{◌≡◌, ◌^◌, ◌≤◌, length, take};
-ghost use Rattle.array.specs.Array.{Holds};
+ghost use Rattle.std.specs.Prelude.{◌≡◌, length, take};
 ghost use Rattle.matrix.specs.Matrix.{Frobenius};
 
 use crate::powers::powers;

@@ -1,11 +1,10 @@
 // The matrix of u ↦ u·S: its columns are S, X·S, X²·S, …, so that u·S is its product with u. It costs two to three products, and then each
 // product with S a third of one.
-ghost use Rattle.std.specs.Prelude.{◌≡◌, ◌≤◌, take, replicate};
+ghost use Rattle.std.specs.Prelude.{◌≡◌, take, replicate};
 ghost use Rattle.array.specs.Array.{Holds};
 ghost use Rattle.matrix.specs.Matrix.{Multiples};
 
 use crate::powers::place;
-use modular::barrett::Barrett;
 use residue::modulus::Modulus;
 use residue::ring::times_x;
 

@@ -1,12 +1,11 @@
 // The matrix of u ↦ u(S): its columns are the powers of S, so that u(S) is its product with u. One matrix serves any number of substitutions.
 // It is one flat array of 256 words, 16 rows of 16 words, as document 01 has it; the caller lends it.
-ghost use Rattle.std.specs.Prelude.{◌≡◌, ◌^◌, ◌≤◌, ◌<◌, length, take};
+ghost use Rattle.std.specs.Prelude.{◌≡◌, ◌≤◌, ◌<◌, length, take};
 ghost use Rattle.array.specs.Array.{padded, Holds};
 ghost use Rattle.matrix.specs.Matrix.{Powers, Placed, Kept, column as column_of};
 
 use crate::multiples::multiples;
 use crate::product::products;
-use modular::barrett::Barrett;
 use residue::modulus::Modulus;
 use residue::ring::multiply;
 

@@ -1,5 +1,5 @@
 // The congruences of a pair. Two of them, T1(S) = 0 and R(S) = X modulo T2, imply the other two, and one matrix of the powers of S serves both.
-ghost use Rattle.std.specs.Prelude.{◌≡◌, ◌^◌, ◌≤◌, take};
+ghost use Rattle.std.specs.Prelude.{◌≡◌, take};
 ghost use Rattle.algebra.specs.Lists.{equal};
 ghost use Rattle.quotient.specs.Residue.{constant, modulus_at};
 ghost use Rattle.array.specs.Array.{Holds};

@@ -1,5 +1,5 @@
 // What the program prints for a card.
-ghost use Rattle.std.specs.Prelude.{◌≡◌, ◌*◌, ◌≤◌, length, replicate, take};
+ghost use Rattle.std.specs.Prelude.{◌≡◌, ◌≤◌, length, replicate, take};
 ghost use Rattle.card.specs.Card.{card, card_length, write_number};
 ghost use Rattle.refusal.specs.Models.{Models, Given};
 ghost use Rattle.answer.specs.Answer.{answer_text, job_text, pair_card_text, pair_text, part};

@@ -1,5 +1,5 @@
 // The reader of cards. Nothing is written before the last refusal is decided.
-ghost use Rattle.std.specs.Prelude.{◌≡◌, false, ◌&&◌, not, ◌++◌, ◌∷◌, [], ◌+◌, ◌-◌, ◌*◌, ◌/◌, ◌^◌, ◌≤◌, ◌<◌, ltb, eqb, length, IfOk};
+ghost use Rattle.std.specs.Prelude.{◌≡◌, false, ◌&&◌, not, ◌∷◌, [], ◌+◌, ◌-◌, ◌*◌, ◌/◌, ◌^◌, ◌≤◌, ◌<◌, ltb, eqb, length, IfOk};
 ghost use Rattle.algebra.specs.Lists.{all};
 ghost use Rattle.array.specs.Words.{all_below};
 ghost use Rattle.modular.specs.Prime.{largest_prime};

@@ -1,5 +1,5 @@
 // The ring of residues modulo T, on arrays of 16 words: n words below p, and zeros after them.
-ghost use Rattle.std.specs.Prelude.{◌≡◌, ◌+◌, ◌-◌, ◌*◌, ◌/◌, ◌%◌, ◌^◌, ◌≤◌, ◌<◌, get_or, take, replicate};
+ghost use Rattle.std.specs.Prelude.{◌≡◌, ◌+◌, ◌-◌, ◌*◌, ◌/◌, ◌%◌, ◌≤◌, get_or, take, replicate};
 ghost use Rattle.quotient.specs.Residue.{times_x, product, power, residue_of_x, substitute};
 ghost use Rattle.array.specs.Array.{padded, Holds};
 ghost use Rattle.residue.specs.Delayed.{reduced, Delayed, Stepped};

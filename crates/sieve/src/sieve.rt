@@ -1,5 +1,5 @@
 // The sieve of Eratosthenes for polynomials: of each degree up to n/2 in turn, and then of degree n, the multiples of the polynomials of lower degree that are not marked are struck out.
-ghost use Rattle.std.specs.Prelude.{◌≡◌, List, ◌+◌, ◌/◌, ◌^◌, ◌≤◌, ◌<◌, length, replicate};
+ghost use Rattle.std.specs.Prelude.{◌≡◌, ◌+◌, ◌/◌, ◌^◌, ◌≤◌, length, replicate};
 ghost use Rattle.sieve.specs.Clauses.{Sieved, Progress, Room, Clear, SievedBelow, Outside};
 
 use crate::digits::power;

@@ -1,6 +1,6 @@
 // α of a model of degree n = p^k, by the rounds of Algorithm 4.1: a = α = 1 at the start; k times a becomes a·α^(p − 1), and then α the solution of v^p = v + a with constant
 // coefficient 0. All k rounds have their solution exactly if T has no monic divisor of degree 1 to n − 1.
-ghost use Rattle.std.specs.Prelude.{true, ◌≡◌, ◌-◌, ◌^◌, ◌≤◌, take, MatchOption};
+ghost use Rattle.std.specs.Prelude.{true, ◌≡◌, ◌^◌, ◌≤◌, take, MatchOption};
 ghost use Rattle.algebra.specs.Prime.{Prime};
 ghost use Rattle.array.specs.Array.{padded, Holds};
 ghost use Rattle.galois.specs.Tower.{raised};

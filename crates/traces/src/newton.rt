@@ -4,7 +4,7 @@
 ghost use Rattle.std.specs.Prelude.{◌+◌, ◌*◌, ◌≤◌, ◌<◌};
 ghost use Rattle.array.specs.Array.{Holds};
 
-use modular::barrett::{Barrett, times};
+use modular::barrett::times;
 use residue::modulus::Modulus;
 
 // Tr(X^(k+1)), from the k traces before it: the sum is reduced once, and its opposite is taken as it comes, which is at most 2·p. The last of the k traces,

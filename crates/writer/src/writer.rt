@@ -1,6 +1,6 @@
 // The writer of cards. Every byte is a function of its place, and nothing is written before the last refusal is decided.
 // A kind is its number here: the caller gives it so, and the card has its bits.
-ghost use Rattle.std.specs.Prelude.{[], ◌≡◌, ◌*◌, ◌≤◌, ◌<◌, length, get_or};
+ghost use Rattle.std.specs.Prelude.{[], ◌≡◌, ◌≤◌, ◌<◌, length, get_or};
 ghost use Rattle.refusal.specs.Number.{number_of};
 ghost use Rattle.card.specs.Bits.{unpacked};
 ghost use Rattle.card.specs.Card.{layout, header_bits, is_over, width, all_bits, header, card, write_number, write_output};
