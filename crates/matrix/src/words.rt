@@ -9,27 +9,27 @@ use array::Word;
 use array::copy::load;
 use modular::barrett::{Barrett, times};
 
-// The product of row i with a list of n words, modulo p.
-fn dot_list(d: Barrett, n: usize, m: &[u64; 256], u: &[Word], i: usize) -> u64
-    requires sizes { (n ≤ 16) × (i < n) }
-    requires square { Square d.p n m.now × Words d.p n u.now }
+// The product of row i with a list of N words, modulo p.
+fn dot_list<const N: usize>(d: Barrett, m: &[u64; 256], u: &[Word], i: usize) -> u64
+    requires sizes { (N ≤ 16) × (i < N) }
+    requires square { Square d.p N m.now × Words d.p N u.now }
     ensures { result ≡ row_product m.now i 0 u.now % d.p }
 {
     let mut sum = 0;
-    for (j, word) in u.iter().enumerate() {
-        sum += times(m[16 * i + j], *word as u64);
+    for j in 0..N {
+        sum += times(m[16 * i + j], u[j] as u64);
     }
     d.reduce(sum)
 }
 
-// The product with few words, which are read from the list for each row.
-fn multiply_few(d: Barrett, n: usize, m: &[u64; 256], u: &[Word], out: &mut [Word])
-    requires sizes { (n ≤ 16) × (length out.old ≡ n) }
-    requires square { Square d.p n m.now × Words d.p n u.now }
-    ensures { out.new ≡ matrix_product d.p n m.now u.now }
+// The product with few words, which are read from the list for each row. Their number is a constant, so that the compiler unrolls both loops.
+fn multiply_few<const N: usize>(d: Barrett, m: &[u64; 256], u: &[Word], out: &mut [Word])
+    requires sizes { (N ≤ 16) × (length out.old ≡ N) }
+    requires square { Square d.p N m.now × Words d.p N u.now }
+    ensures { out.new ≡ matrix_product d.p N m.now u.now }
 {
-    for (i, word) in out.iter_mut().enumerate() {
-        *word = dot_list(d, n, m, u, i) as Word;
+    for i in 0..N {
+        out[i] = dot_list::<N>(d, m, u, i) as Word;
     }
 }
 
@@ -62,9 +62,13 @@ pub fn multiply(d: Barrett, n: usize, m: &[u64; 256], u: &[Word], out: &mut [Wor
     requires rows { Rows d.p n m.now × Words d.p (length u.now) u.now }
     ensures { out.new ≡ matrix_product d.p n m.now (take n u.now) }
 {
-    if n < 6 {
-        multiply_few(d, n, m, &u[..n], out);
-    } else {
-        multiply_many(d, n, m, u, out);
+    let few = &u[..n];
+    match n {
+        1 => multiply_few::<1>(d, m, few, out),
+        2 => multiply_few::<2>(d, m, few, out),
+        3 => multiply_few::<3>(d, m, few, out),
+        4 => multiply_few::<4>(d, m, few, out),
+        5 => multiply_few::<5>(d, m, few, out),
+        _ => multiply_many(d, n, m, u, out),
     }
 }

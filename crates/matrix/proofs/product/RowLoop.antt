@@ -80,12 +80,9 @@ module _ (p n i j : ℕ) (m u : List ℕ) (x : Factors p n i m u) where
           let zero : r ≡ 0 = e ∙ low_none (entry m i j) (get_or u j 0) none in
           record { value = zero ∙ sym none; small = omega arith; place = place; turn = lj }
 
-module _ (p n i j : ℕ) (m u : List ℕ) (few : p ≤ 2 ^ 20) (short : n ≤ 16) (x : Square p n m) (li : i < n) (y : Words p n u) (place : j < length u) where
-  lj : j < n
-  lj = omega (arith, words_length y)
-
-  pub list_place : 16 * i + j < 256
-  list_place = omega (arith, lj)
+module _ (p n i j : ℕ) (m u : List ℕ) (few : p ≤ 2 ^ 20) (short : n ≤ 16) (x : Square p n m) (li : i < n) (y : Words p n u) (lj : j < n) where
+  pub list_place : j < length u
+  list_place = omega (arith, words_length y)
 
   pub list_word : get_or u j 0 < 2 ^ 32
   list_word = omega (arith, words_at y j lj)
@@ -97,7 +94,7 @@ module _ (p n i j : ℕ) (m u : List ℕ) (few : p ≤ 2 ^ 20) (short : n ≤ 16
   entry_low = omega (arith, x.below i j li lj)
 
   pub list_term : (r : ℕ) → r ≡ get_or m (16 * i + j) 0 * get_or u j 0 → Term p i j m u r
-  list_term r e = term_of p i j m u r e (x.below i j li lj) (words_at y j lj) place (omega (arith, lj))
+  list_term r e = term_of p i j m u r e (x.below i j li lj) (words_at y j lj) list_place (omega arith)
 
 -- the factors, where the zeros are in u
 pub products_factors : (p n k i : ℕ) (m u : List ℕ) → p ≤ 2 ^ 20 → n ≤ k → k ≤ 16 → i < n → Square p k m → Holds p k u → Factors p k i m u
@@ -177,8 +174,8 @@ module _ (p i : ℕ) (m u : List ℕ) (j sum : ℕ) (h : RowSum p i m u j sum) w
   whole_row : length u ≤ j → (r : ℕ) → r ≡ sum % p → r ≡ row_product m i 0 u % p
   whole_row l r f = f ∙ ap (λ x. x % p) (h.value ∙ ap (row_product m i 0) (take_all j u l))
 
-  pub list_row : (n : ℕ) → Words p n u → length u ≤ j → (r : ℕ) → r ≡ sum % p → r ≡ row_product m i 0 u % p
-  list_row n y l r f = whole_row l r f
+  pub list_row : (n : ℕ) → Words p n u → n ≤ j → (r : ℕ) → r ≡ sum % p → r ≡ row_product m i 0 u % p
+  list_row n y l r f = whole_row (omega (arith, words_length y)) r f
 
   pub array_row : (n : ℕ) → Factors p n i m u → 16 ≤ j → (r : ℕ) → r ≡ sum % p → r ≡ row_product m i 0 (take n u) % p
   array_row n x l r f =

@@ -1,5 +1,5 @@
 -- The loop that writes the words of a product into a list.
-use mathlib.Core.Path.{◌≡◌, sym, ap, ◌∙◌}
+use mathlib.Core.Path.{◌≡◌, subst, sym, ap, ◌∙◌}
 use mathlib.Core.List.{List}
 use Prim.Native.Nat.{ℕ, ◌*◌, ◌%◌, ◌^◌, ◌≤◌, ◌<◌}
 use native.Mathlib.Nat as Nat
@@ -10,7 +10,7 @@ use lib.Seq.{length-take-le, get_or-take, take-append-le, take-take}
 use mir.Syntax.{w32}
 use mir.Val.{Fits}
 use Rattle.array.specs.Words.{Words, word_bound}
-use Rattle.array.specs.Array.{padded, Holds}
+use Rattle.array.specs.Array.{padded, Holds, Square}
 use Rattle.array.proofs.Padded.{holds_is, holds_word, words_at, array_length}
 use Rattle.array.proofs.Painted.{painted}
 use Rattle.array.proofs.Words.{words_length, words_up, take_words}
@@ -26,14 +26,15 @@ word_fits d r x e =
     omega (arith, d.reduces.small)
 
 module _ (p n i : ℕ) (m u out₀ out : List ℕ) (e : out ≡ painted out₀ (product_word p m u) i) where
-  pub list_done : length out₀ ≡ n → i ≤ length out₀ → length out₀ ≤ i → out ≡ matrix_product p n m u
+  pub list_done : length out₀ ≡ n → i ≤ n → n ≤ i → out ≡ matrix_product p n m u
   unfolding matrix_product product_word
-  list_done size l l' = painted-range (product_word p m u) n i out₀ out size (omega arith) (omega arith) e
+  list_done size l l' = painted-range (product_word p m u) n i out₀ out size l l' e
 
 -- of an array that begins with the words of v
 pub loaded_done : (p n i : ℕ) (m u v out₀ out : List ℕ) → Begins n v u → length out₀ ≡ n → i ≤ length out₀ → length out₀ ≤ i
     → out ≡ painted out₀ (product_word p m (take n u)) i → out ≡ matrix_product p n m (take n v)
-loaded_done p n i m u v out₀ out h size l l' e = list_done p n i m (take n u) out₀ out e size l l' ∙ ap (matrix_product p n m) h.words
+loaded_done p n i m u v out₀ out h size l l' e =
+    list_done p n i m (take n u) out₀ out e size (omega arith) (omega arith) ∙ ap (matrix_product p n m) h.words
 
 pub loaded_factors : (p n i : ℕ) (m u v : List ℕ) → i < n → Rows p n m → n ≤ length v → Words p (length v) v → Begins n v u → Factors p n i m u
 loaded_factors p n i m u v li x long w h =
@@ -73,6 +74,10 @@ front_short k u h = rw length-take (omega arith)
 
 pub front_words : (p n : ℕ) (u : List ℕ) → n ≤ length u → Words p (length u) u → Words p n (take n u)
 front_words p n u l w = take_words w n l
+
+-- what is asked of few words, for the constant k that is their number
+pub few_given : (p n k : ℕ) (m u : List ℕ) → n ≡ k → Rows p n m → n ≤ length u → Words p (length u) u → Square p k m × Words p k (take n u)
+few_given p n k m u e h l w = subst (λ j. Square p j m × Words p j (take n u)) e (h.square, front_words p n u l w)
 
 pub words_fit : (p : ℕ) (u : List ℕ) → p ≤ 2 ^ 20 → Words p (length u) u → Words word_bound (length u) u
 words_fit p u few w = words_up (omega arith) w

@@ -3,4 +3,4 @@ use Rattle.matrix.proofs.product.RowLoop.{RowSum}
 use Rattle.matrix.proofs.words.dot_list.Given as goal
 
 abbrev pub invariant-loop-j : goal.invariant-loop-j
-invariant-loop-j l = RowSum l.d.p l.i l.m l.u l.j l.sum
+invariant-loop-j g l = RowSum l.d.p l.i l.m l.u l.j l.sum

@@ -4,10 +4,10 @@ use Rattle.matrix.proofs.words.WordLoop.{list_done}
 use Rattle.matrix.proofs.words.multiply_few.Goals as goal
 
 pub loop-i-init : goal.loop-i-init
-loop-i-init c = search painted_none
+loop-i-init g c = search painted_none
 
 pub loop-i-preserved : goal.loop-i-preserved
-loop-i-preserved c = search apply_turn
+loop-i-preserved g c = search apply_turn
 
 pub returns : goal.returns
-returns c = search list_done
+returns g c = search list_done

@@ -5,4 +5,4 @@ use Rattle.matrix.proofs.product.ProductLoop.{product_word}
 use Rattle.matrix.proofs.words.multiply_few.Given as goal
 
 abbrev pub invariant-loop-i : goal.invariant-loop-i
-invariant-loop-i l = l.out ≡ painted l.initial.out (product_word l.d.p l.m l.u) l.i
+invariant-loop-i g l = l.out ≡ painted l.initial.out (product_word l.d.p l.m l.u) l.i
