@@ -174,13 +174,11 @@ pub extern "C" fn yokebean_session_report(session: SessionValue, out: &mut [u8])
     ensures value { result ≡ given_back session (report (session_of session) out.old) }
     ensures out_after { out.new ≡ report_output (session_of session) out.old }
 {
-    match session_of(session).report(out) {
-        Ok(_) => StepValue { number: 0, session },
-        Err(refused) => StepValue {
-            number: refused.refusal.into(),
-            session,
-        },
-    }
+    let number = match session_of(session).report(out) {
+        Ok(_) => 0,
+        Err(refused) => refused.refusal.into(),
+    };
+    StepValue { number, session }
 }
 
 // Any state to empty, without the open table and the waiting session, with the records: always 0.

@@ -14,39 +14,43 @@ use crate::{SessionValue, StepValue};
 use refusal::Refusal;
 use work::{Recorded, Work};
 
-// The value with another for all but its ledger, of which so many records count.
-fn with_work(v: SessionValue, work: Work, records: u32) -> SessionValue
+// The value with another for all but its ledger, of which so many records count: changed in place,
+// so that the ledger is not copied.
+fn with_work(mut v: SessionValue, work: Work, records: u32) -> SessionValue
     ensures { result ≡ value_with work records v.ledger }
 {
-    let ledger = v.ledger;
-    SessionValue {
-        held: held_value(work.held),
-        records,
-        ledger,
-        table: open_number(work.table),
-        fed: fed_number(work.table),
-        waiting: held_value(work.waiting),
-    }
+    v.held = held_value(work.held);
+    v.records = records;
+    v.table = open_number(work.table);
+    v.fed = fed_number(work.table);
+    v.waiting = held_value(work.waiting);
+    v
 }
 
-// The answer of a call that changes all but the ledger; a value that counts as a new one has no records.
+// The answer of a call that changes all but the ledger; a value that counts as a new one has no
+// records. It returns early, since a match that gives the answer would fill one with zeros first.
 pub fn work_answers(v: SessionValue, valid: bool, answer: Result<Work, Refusal>) -> StepValue
     requires { valid ≡ valid_value v }
     ensures { (y : WorkStep) → Answers answer y → result ≡ step_of v (step_with (session_of v) y) }
 {
-    match answer {
-        Ok(work) if valid => StepValue {
-            number: 0,
-            session: with_work(v, work, v.records),
-        },
-        Ok(work) => StepValue {
+    let work = match answer {
+        Ok(work) => work,
+        Err(refusal) => {
+            return StepValue {
+                number: refusal.into(),
+                session: v,
+            };
+        }
+    };
+    if !valid {
+        return StepValue {
             number: 0,
             session: with_work(v, work, 0),
-        },
-        Err(refusal) => StepValue {
-            number: refusal.into(),
-            session: v,
-        },
+        };
+    }
+    StepValue {
+        number: 0,
+        session: with_work(v, work, v.records),
     }
 }
 
@@ -55,17 +59,18 @@ pub fn record_answers(mut v: SessionValue, answer: Result<Recorded, Refusal>) ->
     requires { Recordable v (number_of answer) }
     ensures { (y : RecordStep) → Records answer y → result ≡ step_of v (record_with (session_of v) y) }
 {
-    match answer {
-        Ok(recorded) => {
-            v.ledger[v.records as usize] = record_value(recorded.entry);
-            StepValue {
-                number: 0,
-                session: with_work(v, recorded.work, v.records + 1),
-            }
+    let recorded = match answer {
+        Ok(recorded) => recorded,
+        Err(refusal) => {
+            return StepValue {
+                number: refusal.into(),
+                session: v,
+            };
         }
-        Err(refusal) => StepValue {
-            number: refusal.into(),
-            session: v,
-        },
+    };
+    v.ledger[v.records as usize] = record_value(recorded.entry);
+    StepValue {
+        number: 0,
+        session: with_work(v, recorded.work, v.records + 1),
     }
 }

@@ -8,4 +8,4 @@ returns-in-Ok-clause-value c = report_gives _ _ c.session_of.ensures _ _ c.in-Ok
 
 pub returns-in-Err-clause-value : goal.returns-in-Err-clause-value
 returns-in-Err-clause-value c =
-    ap (λ k. record { number = k; session = c.args.session }) c.into.ensures ∙ report_gives _ _ c.session_of.ensures _ _ c.in-Err.ensures.value
+    ap (λ k. record { number = k; session = c.args.session }) c.into-number.ensures ∙ report_gives _ _ c.session_of.ensures _ _ c.in-Err.ensures.value

@@ -3,9 +3,9 @@ use Rattle.ledger.proofs.Records.{records_long}
 use Rattle.cvalue.proofs.answers.Laws.{record_refused, record_next}
 use Rattle.cvalue.proofs.answers.record_answers.Goals as goal
 
-pub returns-in-Ok : goal.returns-in-Ok
-returns-in-Ok c =
-    λ y h. record_next _ _ _ c.in-Ok.is c.requires y h (search (records_long, c.well_formed)) _ c.record_value.ensures _ c.with_work.ensures
-
 pub returns-in-Err : goal.returns-in-Err
 returns-in-Err c = λ y h. record_refused _ y _ h _ c.in-Err.is _ c.into.ensures
+
+pub returns : goal.returns
+returns c =
+    λ y h. record_next _ _ _ c.in-Ok.is c.requires y h (search (records_long, c.well_formed)) _ c.record_value.ensures _ c.with_work.ensures
