@@ -2,14 +2,16 @@
 --   degree_low, degree_high       the test of n
 --   lengths_tested, words_tested  the tests of the lengths and of the words of lists
 --   by_prime, by_degree, by_lengths, by_words, by_none    the number, by the first test that fails, if any
+--   sent_number                   the number by the four tests is that of 1 to 4
 use Rattle.std.specs.List.{All}
+use mathlib.Core.Bool.{not-not}
 use Rattle.std.proofs.Common.{◌||◌, ◌≡◌, refl, sym, ℕ, zero, suc, ◌≤◌, ◌<◌, ◌↔◌, Bool, true, false, not, IsTrue, List, [], ◌∷◌, length, map, Bor, arith}
 use borrow.Author.Tests.{le-leb, lt-leb}
 use lib.Dec.{leb}
 use Rattle.algebra.specs.Lists as Lists
 use Rattle.array.specs.Words.{all_below}
 use Rattle.modular.specs.Prime.{is_prime}
-use Rattle.refusal.specs.Refusal.{refuse_sent_or, bad_prime, is_degree, bad_degree, bad_length, bad_word}
+use Rattle.refusal.specs.Refusal.{refuse, refuse_sent, refuse_sent_or, bad_prime, is_degree, bad_degree, bad_length, bad_word}
 use Rattle.refusal.proofs.Lists.{lengths_given, given_lengths, below_given, given_below}
 
 pub degree_low : (n : ℕ) → n < 1 → leb 1 n ≡ is_degree n
@@ -79,3 +81,11 @@ module _ (p n : ℕ) (exact : Bool) (xss yss : List (List ℕ)) where
   pub by_none : is_prime p ≡ true → is_degree n ≡ true → (not exact || bad_length n xss) ≡ false → bad_word p yss ≡ false → 0 ≡ number
   unfolding bad_prime bad_degree
   by_none a b c d = rw (a, b, c, d)
+
+-- the four tests together
+
+pub sent_number : (p n r : ℕ) (xss yss : List (List ℕ)) (prime degree lengths words : Bool)
+    → r ≡ refuse 1 (not prime) (refuse 2 (not degree) (refuse 3 (not lengths) (refuse 4 (not words) 0)))
+    → prime ≡ is_prime p → degree ≡ is_degree n → lengths ≡ not (bad_length n xss) → words ≡ not (bad_word p yss) → r ≡ refuse_sent p n xss yss 0
+unfolding bad_prime bad_degree
+sent_number p n r xss yss prime degree lengths words e a b c d = rw (e, a, b, c, d, not-not (bad_length n xss), not-not (bad_word p yss))
