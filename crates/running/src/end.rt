@@ -9,12 +9,14 @@ use held::{Held, State};
 use refusal::Refusal;
 use work::{Recorded, Table, Work};
 
-// What is held after the table: a paired waiting session, or else what was held.
+// What is held after the table: a paired waiting session, or else what was held. Two arms for the
+// latter, so that a wrong version can change the one of a loaded session alone.
 fn held_after(held: Held, waiting: Held) -> Held
     ensures { result ≡ held_after (view waiting) waiting held }
 {
     match counts_as(waiting) {
-        State::Empty | State::Loaded => held,
+        State::Empty => held,
+        State::Loaded => held,
         State::Paired => waiting,
     }
 }
