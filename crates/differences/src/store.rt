@@ -14,8 +14,10 @@ fn keep_first(n: usize, table: &[Word], out: &mut [Word])
     requires { length out.old ≡ length table.now }
     ensures { Begun n table.now out.new }
 {
-    let first = n.min(table.len());
-    out[..first].copy_from_slice(&table[..first]);
+    // Word by word: `copy_from_slice` calls the C library's memmove.
+    for k in 0..n.min(table.len()) {
+        out[k] = table[k];
+    }
 }
 
 // Each word after the first n minus the word of the table n places before.
