@@ -1,5 +1,5 @@
 // The columns of a table: column j has the words j, j + n, j + 2·n, …. A word is restored as the sum of its column up to it.
-ghost use Rattle.std.specs.Prelude.{◌≡◌, ◌+◌, ◌≤◌, length};
+ghost use Rattle.std.specs.Prelude.{◌≡◌, ◌+◌, ◌/◌, ◌≤◌, length};
 ghost use Rattle.std.proofs.lemmas.List.Edits.{sets};
 ghost use Rattle.restoring.specs.Clauses.{Whole, Columns, added, width};
 ghost use Rattle.differences.specs.Differences.{restored};
@@ -27,14 +27,15 @@ fn store_row<const W: usize>(sums: &[Word; W], k: usize, out: &mut [Word])
     }
 }
 
-// Columns j to j + W − 1.
-fn restore_lanes<const W: usize>(n: usize, j: usize, table: &[Word], out: &mut [Word])
+// Columns j to j + W − 1, of a table of so many rows.
+fn restore_lanes<const W: usize>(n: usize, j: usize, rows: usize, table: &[Word], out: &mut [Word])
     requires whole { Whole n table.now out.old }
     requires lanes { (1 ≤ W) × (j + W ≤ n) }
+    requires rows { rows ≡ length table.now / n }
     ensures { Columns n j W (length table.now) (restored n table.now) out.old out.new }
 {
     let mut sums = [0; W];
-    for row in 0..table.len() / n {
+    for row in 0..rows {
         let k = row * n + j;
         add_row(&mut sums, k, table);
         store_row(&sums, k, out);
@@ -53,15 +54,16 @@ fn width(n: usize) -> usize
 }
 
 // The columns from column j on, as many as are restored at a time.
-fn restore_some(n: usize, j: usize, table: &[Word], out: &mut [Word])
+fn restore_some(n: usize, j: usize, rows: usize, table: &[Word], out: &mut [Word])
     requires whole { Whole n table.now out.old }
     requires inside { j + width n ≤ n }
+    requires rows { rows ≡ length table.now / n }
     ensures { Columns n j (width n) (length table.now) (restored n table.now) out.old out.new }
 {
     match n {
-        0..4 => restore_lanes::<1>(n, j, table, out),
-        4..8 => restore_lanes::<4>(n, j, table, out),
-        _ => restore_lanes::<8>(n, j, table, out),
+        0..4 => restore_lanes::<1>(n, j, rows, table, out),
+        4..8 => restore_lanes::<4>(n, j, rows, table, out),
+        _ => restore_lanes::<8>(n, j, rows, table, out),
     }
 }
 
@@ -70,9 +72,11 @@ pub fn restore_columns(n: usize, table: &[Word], out: &mut [Word])
     requires { Whole n table.now out.old }
     ensures { out.new ≡ restored n table.now }
 {
+    // Counted once, not in each pass: a division takes as long as a few rows.
+    let rows = table.len() / n;
     let w = width(n);
     for j in (0..n - w).step_by(w) {
-        restore_some(n, j, table, out);
+        restore_some(n, j, rows, table, out);
     }
-    restore_some(n, n - w, table, out);
+    restore_some(n, n - w, rows, table, out);
 }
