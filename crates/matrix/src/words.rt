@@ -22,7 +22,7 @@ fn dot_list<const N: usize>(d: Barrett, m: &[u64; 256], u: &[Word], i: usize) ->
     d.reduce(sum)
 }
 
-// The product with few words, which are read from the list for each row. Their number is a constant, so that the compiler unrolls both loops.
+// The product with few words, read from the list for each row. Their number is a constant, so that the compiler unrolls both loops.
 fn multiply_few<const N: usize>(d: Barrett, m: &[u64; 256], u: &[Word], out: &mut [Word])
     requires sizes { (N ≤ 16) × (length out.old ≡ N) }
     requires square { Square d.p N m.now × Words d.p N u.now }
