@@ -15,7 +15,7 @@ use refusal::Refusal;
 use work::{Recorded, Work};
 
 // The value with another for all but its ledger, of which so many records count: changed in place,
-// so that the ledger is not copied.
+// which copies the ledger once less.
 fn with_work(mut v: SessionValue, work: Work, records: u32) -> SessionValue
     ensures { result ≡ value_with work records v.ledger }
 {
@@ -27,34 +27,29 @@ fn with_work(mut v: SessionValue, work: Work, records: u32) -> SessionValue
     v
 }
 
-// The answer of a call that changes all but the ledger; a value that counts as a new one has no
-// records. It returns early, since a match that gives the answer would fill one with zeros first.
+// The answer of a call that changes all but the ledger; a value that counts as a new one has no records.
 pub fn work_answers(v: SessionValue, valid: bool, answer: Result<Work, Refusal>) -> StepValue
     requires { valid ≡ valid_value v }
     ensures { (y : WorkStep) → Answers answer y → result ≡ step_of v (step_with (session_of v) y) }
 {
-    let work = match answer {
-        Ok(work) => work,
-        Err(refusal) => {
-            return StepValue {
-                number: refusal.into(),
-                session: v,
-            };
-        }
-    };
-    if !valid {
-        return StepValue {
+    match answer {
+        Ok(work) if valid => StepValue {
+            number: 0,
+            session: with_work(v, work, v.records),
+        },
+        Ok(work) => StepValue {
             number: 0,
             session: with_work(v, work, 0),
-        };
-    }
-    StepValue {
-        number: 0,
-        session: with_work(v, work, v.records),
+        },
+        Err(refusal) => StepValue {
+            number: refusal.into(),
+            session: v,
+        },
     }
 }
 
-// The answer of a call that adds a record: it stands behind those that count.
+// The answer of a call that adds a record: it stands behind those that count. It returns early; as a
+// match that gives the answer, the end of a table took a tenth longer.
 pub fn record_answers(mut v: SessionValue, answer: Result<Recorded, Refusal>) -> StepValue
     requires { Recordable v (number_of answer) }
     ensures { (y : RecordStep) → Records answer y → result ≡ step_of v (record_with (session_of v) y) }
